@@ -8,9 +8,6 @@
 #include "pool.h"
 
 #include <errno.h>
-#include <fcntl.h>
-#include <sys/file.h>
-#include <unistd.h>
 
 enum { CACHE_LINE = 64 };
 
@@ -130,10 +127,8 @@ static hull_reply open_without_file(hull_service *service, const hull_service_op
     return reply_of(code, code == HULL_OPEN ? options->first : 0, 0);
 }
 
-/* Opens the file, and the shared hull with what it has. A file that was made here is removed again if it was for nothing, unless
- * another process has it or has written to it. */
+/* Opens the file, and the shared hull with what it has. */
 static hull_reply open_with_file(hull_service *service, const hull_service_options *options) {
-    int made = open(options->path, O_RDWR | O_CREAT | O_EXCL | O_CLOEXEC | O_NOCTTY, 0666);
     hull_reply opened = hull_shared_journal_open(options->path, &service->journal), started = opened;
     if (opened.code == HULL_OPEN) {
         started = hull_shared_journal_start(service->journal, service->shared, &service->gate, options->limit, options->capacity,
@@ -141,12 +136,6 @@ static hull_reply open_with_file(hull_service *service, const hull_service_optio
     }
     if (started.code != HULL_OPEN && service->journal != NULL) {
         hull_shared_journal_close(service->journal);
-    }
-    if (started.code != HULL_OPEN && made >= 0 && flock(made, LOCK_EX | LOCK_NB) == 0 && lseek(made, 0, SEEK_END) == 0) {
-        unlink(options->path);
-    }
-    if (made >= 0) {
-        close(made);
     }
     return started.code == HULL_OPEN ? opened : started;
 }

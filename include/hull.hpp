@@ -28,6 +28,7 @@
 #include <chrono>
 #include <cstdio>
 #include <cstdlib>
+#include <cstring>
 #include <functional>
 #include <memory>
 #include <mutex>
@@ -94,7 +95,9 @@ enum class Refusal : std::uint32_t {
 class Fault : public std::runtime_error {
 public:
     explicit Fault(Refusal code, std::uint64_t number = 0) : std::runtime_error(""), code_(code), number_(number) {
-        std::snprintf(text_, sizeof text_, number == 0 ? "%s" : "%s: %llu", words(code), static_cast<unsigned long long>(number));
+        const char *said = code == Refusal::no_file && number != 0 ? std::strerror(static_cast<int>(number)) : "";
+        std::snprintf(text_, sizeof text_, number == 0 ? "%s" : *said == 0 ? "%s: %llu" : "%s: %llu, %s", words(code),
+                      static_cast<unsigned long long>(number), said);
     }
     Refusal code() const noexcept { return code_; }
     // The line of a text, the number of seats, or errno, if the code says so; else 0.
@@ -130,7 +133,7 @@ private:
 
     Refusal code_;
     std::uint64_t number_;
-    char text_[128]; // in the exception itself, which so needs no memory
+    char text_[192]; // in the exception itself, which so needs no memory
 };
 
 // The location of a point.
@@ -1720,10 +1723,15 @@ inline Point direction_of(double dx, double dy, bool *rounded = nullptr) {
     return d;
 }
 
-// Returns vertices as well-known text, their coordinates divided by 2^power: as hull_wkt.
+// Returns vertices as well-known text, their coordinates divided by 2^power: as hull_wkt. Fails with Refusal::out_of_range if one is
+// greater than all doubles.
 inline std::string wkt(const std::vector<Point> &vertices, int power = 0) {
     std::string text;
-    detail::resize(text, hull_wkt(vertices.data(), vertices.size(), power, nullptr, 0));
+    const std::size_t length = hull_wkt(vertices.data(), vertices.size(), power, nullptr, 0);
+    if (length == 0) {
+        detail::fail(HULL_OUT_OF_RANGE);
+    }
+    detail::resize(text, length);
     hull_wkt(vertices.data(), vertices.size(), power, &text[0], text.size() + 1);
     return text;
 }

@@ -130,13 +130,17 @@ static inline size_t hull_with_point(char *text) {
     return length;
 }
 
-/* Writes a number as text: an integer as it is, else with the fewest digits that give that double again, and with a point in any locale.
- * Returns its length. */
+/* Writes coordinate / 2^power as text: with the power 0 as an integer, else with the fewest digits that give that double again, and with a
+ * point in any locale. Returns its length; 0, of an empty text, if it is greater than all doubles. */
 static inline size_t hull_number_text(int64_t coordinate, int power, char text[32]) {
     double v = hull_to_double(coordinate, power);
     int digits = 15;
     if (power == 0) {
         return HULL_CAST(size_t, snprintf(text, 32, "%lld", HULL_CAST(long long, coordinate)));
+    }
+    if (!hull_is_equal_double(v - v, 0)) {
+        text[0] = 0;
+        return 0;
     }
     do {
         snprintf(text, 32, "%.*g", digits, v);
@@ -144,15 +148,27 @@ static inline size_t hull_number_text(int64_t coordinate, int power, char text[3
     return hull_with_point(text);
 }
 
+/* Returns whether no coordinate divided by 2^power is greater than all doubles. */
+static inline int hull_are_doubles(const hull_point *vertices, size_t count, int power) {
+    size_t i;
+    int are_all = 1;
+    for (i = 0; i < count && are_all && power < 0; i++) {
+        double x = hull_to_double(vertices[i].x, power), y = hull_to_double(vertices[i].y, power);
+        are_all = hull_is_equal_double(x - x, 0) && hull_is_equal_double(y - y, 0);
+    }
+    return are_all;
+}
+
 /* Writes vertices as well-known text (OGC 06-103r4), which GEOS, PostGIS and QGIS read: POLYGON EMPTY, a POINT, a LINESTRING,
  * or a POLYGON whose ring is closed and runs counterclockwise. Coordinates are divided by 2^power. Like snprintf, it writes at
  * most `capacity` bytes with a 0 at their end, and returns the length of the whole text without that; `out` may be null if
- * `capacity` is 0. */
+ * `capacity` is 0. Returns 0, for an empty text, if one is greater than all doubles. */
 static inline size_t hull_wkt(const hull_point *vertices, size_t count, int power, char *out, size_t capacity) {
     const char *begin = count == 0 ? "POLYGON EMPTY" : count == 1 ? "POINT (" : count == 2 ? "LINESTRING (" : "POLYGON ((";
     const char *end = count == 0 ? "" : count < 3 ? ")" : "))";
     size_t points = count < 3 ? count : count + 1, length = 0, i, j, k;
-    for (i = 0; i < points + 2; i++) {
+    size_t pieces = hull_are_doubles(vertices, count, power) ? points + 2 : 0;
+    for (i = 0; i < pieces; i++) {
         char text[72];
         const char *piece = i == 0 ? begin : i == points + 1 ? end : text;
         if (piece == text) {

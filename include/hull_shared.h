@@ -573,7 +573,8 @@ typedef struct hull_shared_journal hull_shared_journal;
  * file. NO_FILE, with errno as `number`, if the system refuses a call on it (EWOULDBLOCK: another process has it; EINVAL: it is
  * not a regular file; ENAMETOOLONG: its name with .torn.999999 would be too long, and the file is new, or has a torn end; it is
  * unchanged); DAMAGED, with the line `number` of the file, from 1, if a line has not the form of a journal's or a checksum is
- * wrong, and no crash can have left it so: the file is unchanged; NO_MEMORY. The journal is null except with OPEN. */
+ * wrong, and no crash can have left it so: the file is unchanged; NO_MEMORY. The journal is null except with OPEN, and a file
+ * that was made is removed then. */
 hull_reply hull_shared_journal_open(const char *path, hull_shared_journal **journal);
 
 /* Compacts the file of a journal that no process has open: one segment, of additions that leave the same points with the same
@@ -616,7 +617,8 @@ hull_reply hull_shared_journal_sync(hull_shared_journal *journal, uint64_t until
  * file. Returns CLOSED with the number of the next line; NO_FILE or ILLEGAL as hull_shared_journal_durable, and everything is
  * closed, but not all is in the file; SEATS_OUT or IN_USE, as hull_shared_close, and nothing is closed: the journal continues,
  * and may be closed later. Then end the shared hull. Calls of other threads on the journal that began before (durable, wait,
- * sync) return first; none may begin meanwhile. A journal that was not started is only closed. */
+ * sync) return first; none may begin meanwhile. A journal that was not started is only closed; if its start was refused, a file
+ * that opening made is removed. */
 hull_reply hull_shared_journal_close(hull_shared_journal *journal);
 /* end of what tools/table.py writes */
 

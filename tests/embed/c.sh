@@ -22,7 +22,7 @@ page_has_calls() {
     page=$top/man/$1.3
     shift
     missing=$(sed -n 's/^[a-z][a-z0-9_ ]*[ *]\(hull_[a-z_]*\)(.*/\1/p' "$@" | sort -u |
-        grep -vE '_or_null$|_faults?$|_refusal$|^hull_(array|storage_new|storage_free|distance_bounds_scaled|is_equal_double|with_point)$' |
+        grep -vE '_or_null$|_faults?$|_refusal$|^hull_(array|storage_new|storage_free|distance_bounds_scaled|is_equal_double|with_point|are_doubles)$' |
         grep -vE '_with_line$|^hull_shared_call_into$' |
         while read -r name; do grep -q "$name[^a-z_]\|$name\$" "$page" || echo "$name"; done)
     [ -z "$missing" ] || { echo "not on $page: $missing"; return 1; }

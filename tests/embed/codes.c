@@ -1,6 +1,7 @@
 /* Every code of every function of hull.h, through the archive. Prints what is wrong, and how many checks passed and failed.
  * codes TABLE [brief]: the table is lattice.txt; `brief` makes fewer trials of the same kind. */
 #include "hull.h"
+#include <limits.h>
 #include <math.h>
 #include <stdio.h>
 #include <stdlib.h>
@@ -1179,6 +1180,13 @@ static void check_texts(void) {
         }
         check(same, texts[k].text, __LINE__);
     }
+    const hull_point far[] = {{0, 0}, {3, -HULL_COORDINATE_MAX}, {3, 4}};
+    for (int power = -983; power > -990; power--) { /* 2^40 times 2^984 is greater than all doubles */
+        char out[2048] = "#";
+        const size_t length = hull_wkt(far, 3, power, out, sizeof out), number = hull_number_text(far[1].y, power, out + 1024);
+        CHECK(length == strlen(out) && number == strlen(out + 1024) && (length > 0) == (power == -983) && (number > 0) == (power == -983));
+    }
+    CHECK(hull_wkt(far, 3, INT_MIN, NULL, 0) == 0 && hull_wkt(far, 1, INT_MIN, NULL, 0) == strlen("POINT (0 0)"));
 }
 
 /* segments, nearest points and boxes of a triangle, a line, a point and of nothing */

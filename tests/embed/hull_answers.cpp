@@ -499,6 +499,9 @@ static void refused_files(const std::string &path) {
     const auto compacted = [&] { return failure_of([&] { SharedHull::compact(path); }); };
     const unsigned before = open_files();
     CHECK(compacted() == Failure(Refusal::no_file, ENOENT) && !std::ifstream(path));
+    for (const hull::Limits wrong : {hull::Limits{9, 0, 0, 1}, {0, 0, 9, 1}, {9, 0, 9, HULL_SHARED_SEATS_MAX}}) {
+        CHECK(opened(wrong).first == Refusal::out_of_limits && !std::ifstream(path));
+    }
     put(path, "another's\n");
     CHECK(opened({9, 0, 9, 1}) == Failure(Refusal::damaged, 1) && compacted() == Failure(Refusal::damaged, 1));
     put(path, head + "5 0 add 1 1 = again 2\nend 1\n");

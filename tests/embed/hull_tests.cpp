@@ -348,8 +348,10 @@ static void texts() {
                {Refusal::no_file, "a call on the journal file failed, with this errno"},
                {Refusal::damaged, "the file is damaged, or not a journal, from this line on"}};
     for (const auto &one : all) {
+        const std::string words = one.code == Refusal::no_file ? std::string(", ") + std::strerror(ENOENT) : "";
+        const hull::Fault fault(one.code, ENOENT);
         CHECK(std::strcmp(hull::Fault(one.code).what(), one.text) == 0 && hull::Fault(one.code).number() == 0);
-        CHECK(hull::Fault(one.code, 7).what() == std::string(one.text) + ": 7" && hull::Fault(one.code, 7).number() == 7);
+        CHECK(fault.what() == one.text + (": " + std::to_string(ENOENT)) + words && fault.number() == ENOENT);
     }
 }
 
@@ -484,6 +486,8 @@ static void exchange() {
     CHECK(hull::wkt({{0, 0}, {3, 4}}, 2) == "LINESTRING (0 0, 0.75 1)");
     CHECK(hull::wkt(square) == "POLYGON ((0 0, 10 0, 10 10, 0 10, 0 0))");
     CHECK(hull::wkt({{0, 0}, {far, 1}, {0, far}}, 40) == "POLYGON ((0 0, 1 9.094947017729282e-13, 0 1, 0 0))");
+    CHECK(hull::wkt({{far, -1}}, -983) == "POINT (8.98846567431158e+307 -8.174961907854212e+295)" && hull::wkt({{0, 0}}, -2000) == "POINT (0 0)");
+    CHECK(refuses(Refusal::out_of_range, [] { hull::wkt({{0, 0}, {3, -far}}, -984); }));
 }
 
 static void shared() {

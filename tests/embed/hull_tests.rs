@@ -605,6 +605,8 @@ fn text() {
     assert_eq!(wkt(&[point(0, 0), point(3, 4)], 2), "LINESTRING (0 0, 0.75 1)");
     assert_eq!(square().wkt(0).unwrap(), "POLYGON ((0 0, 10 0, 10 10, 0 10, 0 0))");
     assert_eq!(square().wkt(-1).unwrap(), "POLYGON ((0 0, 20 0, 20 20, 0 20, 0 0))");
+    assert_eq!((square().wkt(-1021), square().wkt(i32::MIN)), (Err(Fault::OutOfRange), Err(Fault::OutOfRange)));
+    assert!(square().wkt(-1020).is_ok() && wkt(&[point(0, 0)], i32::MIN) == "POINT (0 0)");
 }
 
 #[test]

@@ -1595,6 +1595,26 @@ static void starts_only_right(void) {
     check("its line", has(path, "\n0 62 add 1 1 = added\n"), 1);
 }
 
+/* A file that was made for a start that is refused is removed again; one that was there stays, and one that a child may continue with. */
+static void removes_what_it_made_for_nothing(void) {
+    for (int was_there = 0; was_there < 2; was_there++) {
+        hull_shared_journal *journal = open_journal(0);
+        check("refused", hull_shared_journal_start(journal, shared, &gate, 3, 0, 1, 0).code, HULL_OUT_OF_LIMITS);
+        check("close", hull_shared_journal_close(journal).code, HULL_CLOSED);
+        check("the file", is_there(path), was_there);
+        put_text("");
+    }
+    unlink(path);
+    hull_shared_journal *journal = open_journal(0);
+    pid_t child = begin_idle();
+    check("refused", hull_shared_journal_start(journal, shared, &gate, 3, 0, 1, 0).code, HULL_OUT_OF_LIMITS);
+    check("close", hull_shared_journal_close(journal).code, HULL_CLOSED);
+    check("the child's file", is_there(path), 1);
+    end_idle(child);
+    hull_shared_journal_close(open_journal(0));
+    check("nothing was refused", is_there(path), 1);
+}
+
 /* A file is compacted to additions that end with the same number, also past 2^64 - 1, and at each end of the coordinates. */
 static void compacts_to_the_same_number(void) {
     uint64_t number;
@@ -1667,6 +1687,7 @@ static const struct {
     {"opens_long_names", opens_long_names},
     {"compacts_many_changes", compacts_many_changes},
     {"starts_only_right", starts_only_right},
+    {"removes_what_it_made_for_nothing", removes_what_it_made_for_nothing},
     {"compacts_to_the_same_number", compacts_to_the_same_number},
 };
 

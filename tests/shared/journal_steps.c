@@ -238,6 +238,7 @@ void __wrap_free(void *block) {
 
 static char folder[4000], path[4096];
 static int is_durable; /* whether the line of an added point was reported as durable */
+static int is_started; /* whether the journal was started */
 
 static hull_reply do_open(void) {
     hull_shared_journal *journal;
@@ -290,7 +291,8 @@ static hull_reply do_append(void) {
     }
     if (reply.code == HULL_OPEN) {
         reply = hull_shared_journal_start(journal, shared, &gate, 30, 90, 1, 0);
-        if (reply.code == HULL_OPEN) {
+        is_started = reply.code == HULL_OPEN;
+        if (is_started) {
             reply = add_and_close(journal, shared, &gate);
             check("end", hull_shared_end(shared), HULL_ENDED);
         } else {
@@ -376,6 +378,7 @@ static void check_files(size_t at, int is_done) {
     const unsigned others = entries_of(folder) - 2 - (access(path, F_OK) == 0);
     check("no other file", others, torn_mode != 0);
     check("only its owner reads what was cut off, which is whole", torn_mode == 0 || (torn_mode == 0600 && has_only(torn, TORN)), 1);
+    check("a file that was made for nothing", scenarios[at].before == NULL && !is_done && !is_started && access(path, F_OK) == 0, 0);
     check("the mode", mode_of(""), scenarios[at].before != NULL ? 0640 : access(path, F_OK) == 0 ? 0666 : 0);
     if (scenarios[at].after != NULL) {
         const int is_after = has_only(path, scenarios[at].after);
@@ -397,7 +400,7 @@ static hull_reply run(size_t at, long step, long request) {
     step_count = request_count = 0;
     refused_step = step, refused_request = request;
     errno = 77;
-    is_durable = 0;
+    is_durable = is_started = 0;
     is_watching = 1;
     const hull_reply reply = scenarios[at].run();
     is_watching = 0;
@@ -433,6 +436,16 @@ static void check_first_reason(size_t at, long step, hull_reply alone) {
     why_later = 0;
 }
 
+/* Whether a call is made again if a signal interrupts it. (A renaming may have been done.) */
+static int is_made_again(const char *step) {
+    static const char *names[] = {"open ", "lock zone 6", "read ", "write ", "sync ", "cut "};
+    int is_one = 0;
+    for (size_t k = 0; k < sizeof names / sizeof *names; k++) {
+        is_one |= strncmp(step, names[k], strlen(names[k])) == 0;
+    }
+    return is_one;
+}
+
 /* Refuses each call in turn. */
 static void refuse_calls(size_t at) {
     const hull_reply all = run(at, -1, -1);
@@ -454,10 +467,11 @@ static void refuse_calls(size_t at) {
             }
         }
         why = EIO;
-        if (strncmp(steps[step], "read ", 5) == 0 || strncmp(steps[step], "write ", 6) == 0) { /* it is made again */
+        if (is_made_again(steps[step])) {
             why = EINTR;
             const hull_reply reply = run(at, step, -1);
             check("an interrupted call", reply.code, all.code);
+            check("and its number", reply.number, all.number);
             why = EIO;
         }
         is_past_length |= strncmp(steps[step], "length of ", 10) == 0;

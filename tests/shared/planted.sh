@@ -27,10 +27,10 @@ killed_wrongly() {
 
 journals() {
     killed_wrongly 'lines are reported as durable before they are written' "$early"
-    killed_wrongly 'nothing is synced' 's/failed == 0 && fsync\(j->file\) != 0/0/'
+    killed_wrongly 'nothing is synced' 's/failed == 0 && !sync_file\(j->file\)/0/'
     killed_wrongly 'what a write did not take is left out' 's/^    while \(count > 0\) \{/    if (count > 0) {/'
-    killed_wrongly 'a torn segment stays' 's/ftruncate\(j->file, \(off_t\)j->end\) != 0\)/0)/'
-    killed_wrongly 'an opening syncs nothing' 's/fsync\(j->file\) == 0 && fsync\(j->folder\) == 0;/1;/'
+    killed_wrongly 'a torn segment stays' 's/!cut_file\(j->file, j->end\)\)/0)/'
+    killed_wrongly 'an opening syncs nothing' 's/sync_file\(j->file\) && sync_file\(j->folder\);/1;/'
     killed_wrongly 'an opening does not write the last segment again' 's/uint64_t at = j->last;/uint64_t at = j->end;/'
     killed_wrongly 'what was requested is done before it is drained' \
         's/hull_shared_gate_drain\(j->gate, j->seat\)\) \{/(__atomic_store_n(\&j->done, requested, __ATOMIC_SEQ_CST), notify(j), hull_shared_gate_drain(j->gate, j->seat))) {/'

@@ -234,7 +234,10 @@ class Calls(unittest.TestCase):
                     self.assertEqual(refused.exception.filename, missing)
             self.assertRaises(FileNotFoundError, SharedHull.compact, os.path.join(folder, "none"))
             self.assertFalse(os.path.exists(os.path.join(folder, "none")))
-            self.assertRaises(ValueError, SharedHull.open_journal, os.path.join(folder, "new"), capacity=1, seats=SEAT_LIMIT)
+            for wrong in ({"seats": SEAT_LIMIT}, {"capacity": 0}, {"limit": 0}, {"readers": READER_LIMIT + 1}, {"every": -1.0}):
+                with self.assertRaises(ValueError):
+                    SharedHull.open_journal(os.path.join(folder, "new"), **{"capacity": 1, "seats": 1, **wrong})
+                self.assertFalse(os.path.exists(os.path.join(folder, "new")), wrong)
 
     def test_a_file_stays_open_while_a_reader_is_acquired(self):
         with tempfile.TemporaryDirectory() as folder:

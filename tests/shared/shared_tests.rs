@@ -391,6 +391,7 @@ fn files_that_are_refused() {
     let wrong = [Limits { capacity: 0, ..limits }, Limits { points: 0, ..limits }, Limits { seats: SEAT_LIMIT, ..limits }];
     for limits in wrong {
         assert_eq!(SharedHull::open_journal(folder.file(), limits, None).unwrap_err(), Fault::BadLimit);
+        assert!(!folder.file().exists());
     }
     let hull = SharedHull::open_journal(folder.file(), limits, None).unwrap();
     let mut seat = hull.acquire_seat(0).unwrap();

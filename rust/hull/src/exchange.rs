@@ -125,8 +125,15 @@ fn write_wkt(text: &mut Text, vertices: &[Point], power: i32) -> fmt::Result {
     text.write_str(end)
 }
 
-/// [`wkt`], or [`Fault::NoMemory`].
+/// [`wkt`], or [`Fault::NoMemory`] or [`Fault::OutOfRange`].
 pub(crate) fn try_wkt(vertices: &[Point], power: i32) -> Result<String, Fault> {
+    let is_finite = |&point: &Point| {
+        let (x, y) = Lattice { power }.floats(point);
+        x.is_finite() && y.is_finite()
+    };
+    if !vertices.iter().all(is_finite) {
+        return Err(Fault::OutOfRange);
+    }
     let mut text = Text(String::new());
     write_wkt(&mut text, vertices, power).map_err(|_| Fault::NoMemory)?;
     Ok(text.0)
@@ -134,7 +141,7 @@ pub(crate) fn try_wkt(vertices: &[Point], power: i32) -> Result<String, Fault> {
 
 /// Returns vertices as well-known text (OGC 06-103r4), which GEOS, PostGIS and QGIS read: `POLYGON EMPTY`, a `POINT`, a
 /// `LINESTRING`, or a `POLYGON` whose ring is closed and runs counterclockwise. Coordinates are divided by 2^`power`, and written
-/// with the fewest digits that give that float again. Panics if memory is refused.
+/// with the fewest digits that give that float again. Panics if memory is refused, or a number is greater than all floats.
 pub fn wkt(vertices: &[Point], power: i32) -> String {
     try_wkt(vertices, power).unwrap_or_else(|fault| panic!("{fault}"))
 }

@@ -155,7 +155,7 @@ impl GrowingHull {
         })
     }
 
-    /// Returns the hull as well-known text, its coordinates divided by 2^`power`: see [`wkt`](crate::wkt).
+    /// Returns the hull as well-known text, its coordinates divided by 2^`power`: see [`Hull::wkt`](crate::Hull::wkt).
     pub fn wkt(&self, power: i32) -> Result<String, Fault> {
         exchange::try_wkt(&self.vertex_list()?, power)
     }

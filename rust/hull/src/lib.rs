@@ -364,7 +364,8 @@ impl Hull {
         Ok(there)
     }
 
-    /// Returns the hull as well-known text, its coordinates divided by 2^`power`: see [`wkt`].
+    /// Returns the hull as well-known text, its coordinates divided by 2^`power`: see [`wkt`]. Fails with [`Fault::NoMemory`], and
+    /// [`Fault::OutOfRange`] if a number is greater than all floats.
     pub fn wkt(&self, power: i32) -> Result<String, Fault> {
         exchange::try_wkt(&self.vertex_list()?, power)
     }
