@@ -47,6 +47,8 @@ DEB_PAGE = (
     ("`LICENSE` (MIT) and `CHANGELOG.md` are", "`copyright` (MIT) and `changelog.gz` are"),
     ("`bin/install --uninstall PREFIX` of the repository, or your\npackage manager.", "`dpkg -r hullbook`."),
 )
+# a link or a picture of Markdown; or code, in which there is none
+LINK = re.compile(r"(?ms)^```.*?^```|`[^`\n]*`|(!?)\[([^\[\]]*)\]\(([^()\s]+)\)")
 # what the archive for pip needs of the repository
 FOR_PIP = ("LICENSE", "README.md", "CHANGELOG.md", "VERSION", "HANDLES", "crates.txt", "pyproject.toml", "bin", "tools", "include", "c", "python",
            "rust", "man", "docs/INSTALLED.md")
@@ -62,13 +64,46 @@ def install(processor, prefix, *flags):
     subprocess.run([f"{TOP}/bin/install", *flags, prefix], check=True, env={**os.environ, "HULL_PROCESSOR": processor, "DESTDIR": ""})
 
 
+def is_absent(link, folder, page):
+    """Returns whether a link of a page leads to what is not below the folder; an address or a place in the page does not."""
+    path = os.path.normpath(os.path.join(os.path.dirname(page), link.partition("#")[0]))
+    return not re.match(r"#|[a-z]+:", link) and (path.startswith("..") or not os.path.exists(f"{folder}/{path}"))
+
+
+def links_of(page):
+    """Returns what the links of a page lead to."""
+    return [it[3] for it in LINK.finditer(page) if it[3]]
+
+
+def with_links_inside(text, folder, page):
+    """Returns a page whose links to what is not below the folder are their texts."""
+    def link(found):
+        if not found[3] or not is_absent(found[3], folder, page):
+            return found[0]
+        return f"(A picture in the repository: {found[2]}.)" if found[1] else found[2]
+
+    return LINK.sub(link, text)
+
+
+def keep_links_inside(folder):
+    """Writes the pages below a folder so that no link leads out of it."""
+    for it in [it for it in kit.files_below(folder) if it.endswith(".md")]:
+        text = kit.text_of(f"{folder}/{it}")
+        if with_links_inside(text, folder, it) != text:
+            mode = os.stat(f"{folder}/{it}").st_mode
+            os.remove(f"{folder}/{it}")  # (it may be one file with that of the repository)
+            write(f"{folder}/{it}", with_links_inside(text, folder, it))
+            os.chmod(f"{folder}/{it}", mode)
+
+
 def archive(path, folder, name, mode):
-    """Writes a folder as an archive whose members are below that name, in order, owned by root."""
+    """Writes a folder as an archive whose members are below that name, in order, owned by root. Its pages link to what is in it only."""
     def member(info):
         info.mtime, info.uid, info.gid, info.uname, info.gname = MEMBER_TIME, 0, 0, "root", "root"
         info.mode = 0o755 if info.isdir() or info.mode & 0o100 else 0o644
         return info
 
+    keep_links_inside(folder)
     data = io.BytesIO()
     with tarfile.open(fileobj=data, mode="w" if mode == "gz" else f"w:{mode}", format=tarfile.PAX_FORMAT) as out:
         for it in kit.files_below(folder):
@@ -99,7 +134,7 @@ def make_wheel(out, processor):
         files = {it: kit.bytes_of(f"{work}/lib/hull/{it}") for it in kit.files_below(f"{work}/lib/hull")}
     files[f"{about}/METADATA"] = (
         f"Metadata-Version: 2.1\nName: hullbook\nVersion: {version()}\nSummary: {DESCRIPTION}\nLicense: MIT\nRequires-Python: >=3.8\n"
-        f"Description-Content-Type: text/markdown\n\n{kit.text_of(f'{TOP}/python/README.md')}").encode()
+        f"Description-Content-Type: text/markdown\n\n{with_links_inside(kit.text_of(f'{TOP}/python/README.md'), os.devnull, 'README.md')}").encode()
     tags = "".join(f"Tag: py3-none-{it}\n" for it in PLATFORMS.format(processor).split("."))
     files[f"{about}/WHEEL"] = f"Wheel-Version: 1.0\nGenerator: bin/package\nRoot-Is-Purelib: false\n{tags}".encode()
     files[f"{about}/LICENSE"] = kit.bytes_of(f"{TOP}/LICENSE")
@@ -177,13 +212,14 @@ def make_deb(out):
         about = f"{work}/usr/share/doc/hullbook"
         os.rename(f"{about}/LICENSE", f"{about}/copyright")
         os.remove(f"{about}/CHANGELOG.md")
-        write_gzip(f"{about}/changelog.gz", kit.bytes_of(f"{TOP}/CHANGELOG.md"))
+        write_gzip(f"{about}/changelog.gz", with_links_inside(kit.text_of(f"{TOP}/CHANGELOG.md"), about, "changelog").encode())
         page = kit.text_of(f"{about}/README.md")
         for old, new in DEB_PAGE:
             if page.count(old) != 1:
                 sys.exit(f"bin/package: docs/INSTALLED.md does not say once what DEB_PAGE of tools/packages.py replaces: {old}")
             page = page.replace(old, new)
         write(f"{about}/README.md", page)
+        keep_links_inside(f"{work}/usr")
         entry = f"hullbook ({version()}) unstable; urgency=low\n\n  * Release {version()}: see changelog.gz.\n\n -- {MAINTAINER}  Fri, 27 Nov 2026 00:00:00 +0000\n"
         write_gzip(f"{about}/changelog.Debian.gz", entry.encode())
         for it in [*kit.files_below(f"{work}/usr/share/man")]:

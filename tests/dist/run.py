@@ -306,12 +306,27 @@ def listing_of_package():
     return f'import {{ deepEqual }} from "node:assert/strict";\n{tried}console.log("as it says");\n'
 
 
+def try_links(tries, packages_at):
+    """Each relative link of a page in a package leads to what is in the package."""
+    for name in sorted(os.listdir(packages_at)):
+        folder = f"{tries.room}/links/{name}"
+        os.makedirs(folder)
+        how = ["dpkg-deb", "-x"] if name.endswith(".deb") else ["unzip", "-q"] if name.endswith(".whl") else ["tar", "xf"]
+        if not tries.has(how[0], f"links of {name}"):
+            continue
+        tries.run(*how, f"{packages_at}/{name}", *([folder] if name.endswith(".deb") else ["-d", folder] if name.endswith(".whl") else ["-C", folder]))
+        pages = [it for it in kit.files_below(folder) if it.endswith((".md", "/METADATA", "/copyright"))]
+        outside = [(it, link) for it in pages for link in packages.links_of(kit.text_of(f"{folder}/{it}")) if packages.is_absent(link, folder, it)]
+        tries.see(f"each link of {name} leads to what is in it, or to an address", not outside, str(outside))
+
+
 def try_packages(tries):
     """Each package is made, installed in a folder of its own, and used."""
     status, told = tries.run("bin/package", "--test", f"{tries.room}/packages", at="clone")
     tries.see("bin/package", status == 0, told)
     print(told, end="")
     at, version = f"{tries.room}/packages", packages.version()
+    try_links(tries, at)
     if tries.has("cc", "the archive") and tries.has("pkg-config", "the archive"):
         os.makedirs(f"{tries.room}/unpacked")
         tries.prints("the archive, from any folder", "1", "sh", "-c", f"tar xJf {at}/hull-{version}-x86_64-linux.tar.xz && cd hull-* && export PKG_CONFIG_PATH=$PWD/lib/pkgconfig"

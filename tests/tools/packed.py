@@ -3,6 +3,7 @@ import contextlib
 import gzip
 import io
 import os
+import re
 import shutil
 import tarfile
 import tempfile
@@ -161,6 +162,49 @@ def test_descriptions(tests):
         tests.same("the archives of one processor", crate, [f"hull-7.8.9/archives/x86_64/{one}.a" for one in ("libhull", "libhull_shared")])
 
 
+def texts_of(path):
+    """Returns the texts of a package that may have links, by their paths."""
+    if path.endswith(".whl"):
+        with zipfile.ZipFile(path) as wheel:
+            return {it: wheel.read(it).decode(errors="replace") for it in wheel.namelist()}
+    with tarfile.open(path) as archive:
+        return {it.name: archive.extractfile(it).read().decode(errors="replace") for it in archive.getmembers() if it.isfile()}
+
+
+def leads_out(texts, page):
+    """Returns the relative links of a page that lead to no member of its package, outside of the lines of programs."""
+    prose = re.sub(r"(?ms)^```.*?^```|`[^`\n]*`", "", texts[page])
+    links = [it.partition("#")[0] for it in re.findall(r"\]\(([^()\s]+)\)", prose) if not re.match("#|[a-z]+:", it)]
+    folder = os.path.dirname(page)
+    return [it for it in links if not any(f"{one}/".startswith(os.path.normpath(f"{folder}/{it}") + "/") for one in texts)]
+
+
+def test_links(tests):
+    """Each relative link of a page leads to what is in its package; any other is its text, and the repository's page is as it was."""
+    page = "# A page\n\nSee [docs/PROVED.md](docs/PROVED.md), [this](LICENSE#top), [that](../LICENSE), `[a](b)`\nand [us](https://a.example/b).\n\n![A hull](c.svg)\n\n```c\n[&](x)\n```\n"
+    inside = page.replace("[docs/PROVED.md](docs/PROVED.md)", "docs/PROVED.md").replace("[that](../LICENSE)", "that").replace("![A hull](c.svg)",
+        "(A picture in the repository: A hull.)")
+    with tempfile.TemporaryDirectory() as room:
+        it = Packed(room, hullbook=elf(1), hulldraw=elf(1))
+        for one in ("README.md", "docs/INSTALLED.md", "python/README.md", "web/README.md", "rust/hull/README.md"):
+            write(f"{it.top}/{one}", page if one != "docs/INSTALLED.md" else page + "".join(old for old, _ in packages.DEB_PAGE))
+        for make, words in ((packages.make_tarball, ["x86_64"]), (packages.make_wheel, ["x86_64"]), (packages.make_sdist, []), (packages.make_npm, []),
+                (packages.make_crate, [["x86_64"]]), (packages.make_deb, [])):
+            it.made(make, *words)
+        tests.same("the repository's page", kit.text_of(f"{it.top}/README.md"), page)
+        for name in [one for one in sorted(os.listdir(it.out)) if not one.endswith(".deb")]:
+            texts = texts_of(f"{it.out}/{name}")
+            pages = [one for one in texts if one.endswith(("README.md", "/METADATA"))]
+            told = {one: leads_out(texts, one) for one in texts if one.endswith((".md", "/METADATA"))}
+            tests.see(f"{name}: each link leads to what is in it", pages and not any(told.values()), told)
+            has = inside if name.endswith("gz") or name.endswith("xz") else inside.replace("[this](LICENSE#top)", "this")
+            tests.see(f"{name}: the others are text", all(texts[one].count(has) == 1 for one in pages[:1]), {one: texts[one] for one in pages[:1]})
+        if shutil.which("dpkg-deb"):
+            run(room, "dpkg-deb", "-x", f"{it.out}/{DEB}", f"{room}/deb")
+            told = kit.text_of(f"{room}/deb/usr/share/doc/hullbook/README.md")
+            tests.see("the package for dpkg", told.startswith(inside.replace("[this](LICENSE#top)", "this")), told)
+
+
 def ordered(names):
     """Returns paths in the order of a walk: the files of a folder by name, then its folders."""
     return sorted(names, key=lambda it: [(1, part) for part in it.split("/")[:-1]] + [(0, it.rpartition("/")[2])])
@@ -183,4 +227,4 @@ def test_printed(tests):
             tests.same(f"usage: {words}", run_apart(room, package, *words), (status, output, errors))
 
 
-TESTS = (test_deb_texts, test_deb_page, test_without_dpkg, test_descriptions, test_printed)
+TESTS = (test_deb_texts, test_deb_page, test_without_dpkg, test_descriptions, test_links, test_printed)
