@@ -31,6 +31,11 @@ explain_fault() {
     [ -z "$file" ] || [ "$#" -gt 4 ] || sed -n "$2{s/^/hullbook: line $2 is: /;p;q;}" "$file" | cut -c 1-200 | cat -vt >&2
 }
 
+# whether the words are UTF-8, which the program needs, as far as that can be known here
+are_utf8() {
+    ! command -v iconv >/dev/null || printf '%s\n' "$@" | iconv -f UTF-8 -t UTF-8 >/dev/null 2>&1
+}
+
 # asks the program again for what it said, which is the same on the same files, and says more about it
 say_more() {
     for word in "$@"; do
@@ -41,7 +46,10 @@ say_more() {
     done
     said=$("$program" "$@" 2>&1 >/dev/null)
     case $said in
-    *usage) echo "$synopsis" >&2 ;;
+    *usage)
+        are_utf8 "$@" || echo 'hullbook: a word is not UTF-8: give a file of such a name as /dev/stdin' >&2
+        echo "$synopsis" >&2
+        ;;
     *'line '*': fault '*)
         number=${said##*fault }
         line=${said#*line }

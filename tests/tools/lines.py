@@ -1,5 +1,6 @@
 """Tests each line that tools/program.sh and tools/terminal.sh print, as a whole: why a program cannot be had, what a fault
 means, and the synopsis."""
+import os
 import tempfile
 
 from scripts import lay, on_terminal
@@ -72,6 +73,11 @@ def test_explanations(tests):
         tests.same("nothing more of another message", asked("check", "text", STATUS="2", ERR="hullbook: text: no usage here\\n"),
             (2, f"hullbook: text: no usage here\n{said('check', 'text')}"))
         tests.same("the synopsis", asked("nonsense", STATUS="2", ERR="hullbook: usage\\n"), (2, f"hullbook: usage\n{said('nonsense')}{SYNOPSIS}"))
+        word = os.fsdecode(b"\xffile")
+        tests.same("a name that is not UTF-8", asked("check", word, STATUS="2", ERR="hullbook: usage\\n"),
+            (2, f"hullbook: usage\n{said('check', word)}hullbook: a word is not UTF-8: give a file of such a name as /dev/stdin\n{SYNOPSIS}"))
+        tests.same("one that is", asked("check", "\u00e4", STATUS="2", ERR="hullbook: usage\\n"),
+            (2, f"hullbook: usage\n{said('check', chr(0xe4))}{SYNOPSIS}"))
         for word in ("--version", "-V"):
             tests.same(word, asked(word, STATUS="2", ERR="hullbook: usage\\n"), (2, f"hullbook: usage\n{said(word)}hullbook 7.8.9\n"))
         fault = "hullbook: other: line 2: fault 6\n"

@@ -155,7 +155,7 @@ def on_terminal(top, *words, env, keys=b"", once=""):
         shown += part
     status = os.waitpid(pid, 0)[1]
     os.close(terminal)
-    return os.waitstatus_to_exitcode(status) if hasattr(os, "waitstatus_to_exitcode") else status >> 8, shown.decode().replace("\r\n", "\n")
+    return os.waitstatus_to_exitcode(status) if hasattr(os, "waitstatus_to_exitcode") else status >> 8, shown.decode(errors="surrogateescape").replace("\r\n", "\n")
 
 
 # of each fault of a text a part of what it means
