@@ -96,8 +96,8 @@ class Fault : public std::runtime_error {
 public:
     explicit Fault(Refusal code, std::uint64_t number = 0) : std::runtime_error(""), code_(code), number_(number) {
         const char *said = code == Refusal::no_file && number != 0 ? std::strerror(static_cast<int>(number)) : "";
-        std::snprintf(text_, sizeof text_, number == 0 ? "%s" : *said == 0 ? "%s: %llu" : "%s: %llu, %s", words(code),
-                      static_cast<unsigned long long>(number), said);
+        std::snprintf(text_, sizeof text_, number == 0 ? "%s" : *said == 0 ? "%s: %llu" : "%s: %llu, %s%s", words(code),
+                      static_cast<unsigned long long>(number), said, why(number));
     }
     Refusal code() const noexcept { return code_; }
     // The line of a text, the number of seats, or errno, if the code says so; else 0.
@@ -129,6 +129,13 @@ private:
         case Refusal::damaged: return "the file is damaged, or not a journal, from this line on";
         }
         return "the call was refused";
+    }
+
+    // What an errno of a journal file means, where the system's words do not say it.
+    static const char *why(std::uint64_t number) noexcept {
+        return number == EWOULDBLOCK ? " (another hull has the file)"
+               : number == ESTALE    ? " (another program has changed, replaced or removed the file)"
+                                     : "";
     }
 
     Refusal code_;

@@ -38,6 +38,7 @@ from __future__ import annotations
 import atexit
 import ctypes
 import enum
+import errno
 import functools
 import importlib
 import itertools
@@ -2077,14 +2078,11 @@ class SharedHull:
 
     def acquire_seat(self, number: SupportsIndex) -> Seat:
         """Acquires the seat of a number, 0 and up, for one thread; NoSeat if it is acquired or there is none."""
-        number = operator.index(number)
-        if not 0 <= number < SEAT_LIMIT:
-            _check_code(_Code.NO_SEAT)
-        return Seat(self._shared, number)
+        return Seat(self, number)
 
     def acquire_reader(self) -> Reader:
         """Acquires a reader, for one thread, of those that the hull was opened for; NoSeat if as many are acquired."""
-        return Reader(self._shared)
+        return Reader(self)
 
     def _close(self) -> None:
         """Closes the hull, unless it is closed."""
@@ -2143,10 +2141,21 @@ def _file(path: "Union[str, bytes, os.PathLike[str]]") -> bytes:
     return file
 
 
-def _check_journal_file(reply: _Reply, errno: int, path: "Union[str, bytes, os.PathLike[str], None]" = None) -> None:
+def _shared_of(hull: SharedHull) -> Any:
+    """Returns the address of a shared hull; TypeError for what is none, at which the library would find anything."""
+    if not isinstance(hull, SharedHull):
+        raise TypeError(f"seats and readers are those of a SharedHull, and not of {hull!r}")
+    return hull._shared
+
+
+# why the system refuses a call on a journal file, where its own words do not say it
+_WHY = {errno.EWOULDBLOCK: " (another hull has the file)", errno.ESTALE: " (another program has changed, replaced or removed the file)"}
+
+
+def _check_journal_file(reply: _Reply, number: int, path: "Union[str, bytes, os.PathLike[str], None]" = None) -> None:
     """Raises the exception of a journal file, if the reply has one; it names the path, if one is passed."""
     if reply.code == _Code.NO_FILE:
-        raise OSError(errno, os.strerror(errno), path)
+        raise OSError(number, os.strerror(number) + _WHY.get(number, ""), path)
     if reply.code == _Code.DAMAGED:
         raise JournalFault(f"line {reply.number}: the file is damaged, or not a journal")
     if reply.code == _Code.ILLEGAL:
@@ -2186,7 +2195,10 @@ class JournalSegment:
 
     __slots__ = ("_at", "__weakref__")
 
-    def __init__(self, lines: int) -> None:
+    def __init__(self, lines: SupportsIndex) -> None:
+        lines = operator.index(lines)
+        if not 0 <= lines <= CAPACITY_LIMIT + 1:  # (a drain's own line may be one more)
+            _check_code(_Code.OUT_OF_LIMITS)
         self._at = _at(_shared_kinds()[2], _shared_library().hull_python_segment_new(lines))
 
     def __reduce__(self) -> Any:
@@ -2247,8 +2259,9 @@ class Reader:
 
     __slots__ = ("_at", "_snapshot", "__weakref__")
 
-    def __init__(self, shared: Any) -> None:
+    def __init__(self, hull: SharedHull) -> None:
         self._snapshot: Optional[Snapshot] = None
+        shared = _shared_of(hull)
         self._at = _at(_shared_kinds()[3], _shared_library().hull_python_reader_new())
         _check_code(_shared_library().hull_python_acquire_reader(self._at, shared))
 
@@ -2302,7 +2315,10 @@ class Seat:
 
     __slots__ = ("_at", "_is_acquired", "_number", "_segments", "_space", "__weakref__")
 
-    def __init__(self, shared: Any, number: int) -> None:
+    def __init__(self, hull: SharedHull, number: SupportsIndex) -> None:
+        shared, number = _shared_of(hull), operator.index(number)
+        if not 0 <= number < SEAT_LIMIT:
+            _check_code(_Code.NO_SEAT)
         self._number, self._space, self._is_acquired = number, 64, False
         # what a drain takes now, and what the one before it took
         self._segments: Tuple[Optional[JournalSegment], Optional[JournalSegment]] = None, None

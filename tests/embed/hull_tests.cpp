@@ -353,6 +353,8 @@ static void texts() {
         CHECK(std::strcmp(hull::Fault(one.code).what(), one.text) == 0 && hull::Fault(one.code).number() == 0);
         CHECK(fault.what() == one.text + (": " + std::to_string(ENOENT)) + words && fault.number() == ENOENT);
     }
+    CHECK(std::strstr(hull::Fault(Refusal::no_file, EWOULDBLOCK).what(), " (another hull has the file)") != nullptr);
+    CHECK(std::strstr(hull::Fault(Refusal::no_file, ESTALE).what(), " (another program has changed, replaced or removed the file)") != nullptr);
 }
 
 // the fault of a call, and its number

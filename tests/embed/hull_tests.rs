@@ -645,6 +645,7 @@ fn faults_have_texts() {
         (Fault::Illegal { line: 8 }, "the journal is not a legal history: line 8 of its text"),
         (Fault::TooFewSeats { wanted: 9 }, "the journal has lines by 9 seats"),
         (Fault::NoFile { errno: 2 }, "the file of the journal: No such file or directory (os error 2)"),
+        (Fault::NoFile { errno: 11 }, "the file of the journal: Resource temporarily unavailable (os error 11): another hull has it"),
         (Fault::Damaged { line: 6 }, "the file is damaged, or not a journal, from line 6 on"),
     ];
     for (fault, text) in texts {

@@ -81,6 +81,19 @@ class Calls(unittest.TestCase):
         self.assertEqual(hull.close(), "hullbook journal 3 first 7 limit 3 capacity 4\n"
                                        "7 1 add 0 0 = again 2\n8 1 count = count 2\nend 2\n")
 
+    def test_constructors_take_a_hull(self):
+        with SharedHull(capacity=20, seats=1, readers=1) as hull:
+            with hull_module.Seat(hull, 0) as seat, hull_module.Reader(hull) as reader:
+                self.assertEqual((seat.add(1, 2), reader.snapshot().vertices()), (1, [(1, 2)]))
+            for wrong in (3, None, "", 1 << 64, hull._shared):
+                self.assertRaises(TypeError, hull_module.Reader, wrong)
+                self.assertRaises(TypeError, hull_module.Seat, wrong, 0)
+            self.assertRaises(TypeError, hull_module.Seat, hull, 0.5)
+            self.assertRaises(NoSeat, hull_module.Seat, hull, SEAT_LIMIT)
+        self.assertRaises(TypeError, hull_module.JournalSegment, "1")
+        for wrong in (-1, CAPACITY_LIMIT + 2, 1 << 64):
+            self.assertRaises(ValueError, hull_module.JournalSegment, wrong)
+
     def test_readers(self):
         self.assertRaises(NoSeat, SharedHull(capacity=20, seats=1).acquire_reader)
         for wrong in (-1, READER_LIMIT + 1, 1 << 40, (1 << 32) + 5):
@@ -193,7 +206,7 @@ class Calls(unittest.TestCase):
                 hull = SharedHull.open_journal(path, capacity=50, seats=4, limit=200, every=0.001 if again == 2 else None)
                 self.assertEqual(hull.durable(), lines)
                 self.assertEqual(repr(hull), "<SharedHull for 50 calls with a journal file, 0 of 4 seats acquired>")
-                with self.assertRaises(BlockingIOError):
+                with self.assertRaisesRegex(BlockingIOError, "another hull has the file"):
                     SharedHull.open_journal(path, capacity=50, seats=4)
 
                 def add(number):

@@ -101,7 +101,13 @@ impl fmt::Display for Fault {
             Fault::Illegal { line } => return write!(f, "the journal is not a legal history: line {line} of its text"),
             Fault::TooFewSeats { wanted } => return write!(f, "the journal has lines by {wanted} seats"),
             Fault::NoFile { errno } => {
-                return write!(f, "the file of the journal: {}", std::io::Error::from_raw_os_error(*errno))
+                // where the system's words do not say why (the numbers are Linux's)
+                let why = match errno {
+                    11 => ": another hull has it",
+                    116 => ": another program has changed, replaced or removed it",
+                    _ => "",
+                };
+                return write!(f, "the file of the journal: {}{why}", std::io::Error::from_raw_os_error(*errno));
             }
             Fault::Damaged { line } => return write!(f, "the file is damaged, or not a journal, from line {line} on"),
             Fault::OldRules => "journals before version 3 do not count points",
