@@ -141,6 +141,13 @@ export class Example {
         }
     }
 
+    /** Moves the segment. */
+    push(by) {
+        this.isTaken = true;
+        this.segment = this.segment.map((end) => end.map((it, axis) => it + by[axis]));
+        this.ask();
+    }
+
     /** Takes the segment by an end or between them: returns what moves it to the pointer, or null. */
     taken(place, view) {
         const ends = this.segment.map((it) => view.toScreen(it)), middle = [0, 1].map((i) => (ends[0][i] + ends[1][i]) / 2);

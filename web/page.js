@@ -14,6 +14,8 @@ const STILL = 4; // so many pixels a pointer may move in a click
 const HOLD = 400; // milliseconds after which a finger that stays asks instead of drawing
 const REST = 300; // milliseconds without a change until the journal is stored
 const STEPS = { ArrowLeft: [-1, 0], ArrowRight: [1, 0], ArrowUp: [0, 1], ArrowDown: [0, -1] };
+const SEEN = 8; // a step of the cross is at least so many pixels
+const PUSH = 10; // a step of the example's segment
 const NOTHING = { move() {}, end() {} }; // a drag of nothing
 
 const element = (id) => document.getElementById(id);
@@ -451,17 +453,51 @@ export class Page {
     }
 
     keyed(event) {
-        if (event.ctrlKey || event.metaKey) return;
-        if (event.key === "s") return this.speak();
-        if (this.mode === "example") return;
-        const step = STEPS[event.key], [x, y] = this.cursor ?? this.view.middle.map(Math.round);
-        const far = event.shiftKey ? 10 : 1, add = () => this.do([`add ${x} ${y}`]), remove = () => this.do([`remove ${x} ${y}`]);
-        const undo = () => element("undo").click(), redo = () => element("redo").click();
-        const run = step ? () => this.point([clamped(x + far * step[0]), clamped(y + far * step[1])])
-            : { Enter: add, " ": add, Delete: remove, Backspace: remove, u: undo, z: undo, r: redo, y: redo }[event.key];
+        if (event.ctrlKey || event.metaKey || event.altKey) return;
+        const key = event.key.length === 1 ? event.key.toLowerCase() : event.key;
+        const step = STEPS[key]?.map((it) => it * (event.shiftKey ? 10 : 1));
+        const push = step && (() => this.#pushed(step));
+        const run = key === "s" ? () => this.speak() : this.mode === "example" ? push : this.#keyOnPlane(key, step, event.shiftKey);
         if (!run) return;
         event.preventDefault();
         run();
+    }
+
+    /** Returns what a key does where the plane is drawn on, if it does anything. */
+    #keyOnPlane(key, step, isShifted) {
+        const [x, y] = this.cursor ?? this.view.middle.map(Math.round), unit = Math.max(1, Math.round(SEEN / this.view.scale));
+        if (step) return () => this.#crossAt([x + unit * step[0], y + unit * step[1]]);
+        const add = () => this.do([`add ${x} ${y}`]), remove = () => this.do([`remove ${x} ${y}`]);
+        const undo = () => element("undo").click(), redo = () => element("redo").click();
+        const zoom = (factor) => () => (this.view.zoom(factor, this.view.toScreen([x, y])), this.#crossAt([x, y]));
+        return {
+            Enter: add, " ": add, Delete: remove, Backspace: remove, u: undo, z: undo, r: redo, y: redo,
+            "+": zoom(2), "=": zoom(2), "-": zoom(1 / 2), n: () => this.#nextPoint(isShifted ? -1 : 1),
+        }[key];
+    }
+
+    /** Moves the cross, and the view if the cross would leave it. */
+    #crossAt(place) {
+        const point = place.map(clamped);
+        this.view.reveal(point);
+        this.point(point);
+        this.show();
+    }
+
+    /** Moves the cross to the point after that on which it is, or before it. */
+    #nextPoint(by) {
+        const { coordinates, size } = this.replay.held, [x, y] = this.cursor ?? [];
+        if (size === 0) return;
+        let at = 0;
+        while (at < size && (coordinates[2 * at] !== x || coordinates[2 * at + 1] !== y)) at++;
+        const to = at === size ? (by > 0 ? 0 : size - 1) : (at + by + size) % size;
+        this.#crossAt([coordinates[2 * to], coordinates[2 * to + 1]]);
+    }
+
+    /** Moves the segment of the example. */
+    #pushed(step) {
+        this.example.push(step.map((it) => PUSH * it));
+        this.show();
     }
 
     /** Returns calls that add points at random to the visible range, most of them near its middle. */

@@ -48,6 +48,15 @@ export class View {
         this.middle = [this.middle[0] + (left - this.size[0] / 2) * moved, this.middle[1] - (top - this.size[1] / 2) * moved];
     }
 
+    /** Moves the view so far that a point is in it, with a margin. */
+    reveal(point, margin = 20) {
+        const beyond = this.toScreen(point).map((at, axis) => {
+            const edge = Math.min(margin, this.size[axis] / 2);
+            return Math.max(0, at - this.size[axis] + edge) + Math.min(0, at - edge);
+        });
+        this.pan(-beyond[0], -beyond[1]);
+    }
+
     /** Moves the view by so many pixels. */
     pan(left, top) {
         this.middle = [this.middle[0] - left / this.scale, this.middle[1] + top / this.scale].map(clamped);

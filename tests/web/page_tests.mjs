@@ -112,6 +112,13 @@ async function tryExample() {
         await drag(await place("page.example.segment[0]"), await place("page.example.points.reduce(([x, y], it) => [x + it[0] / page.example.points.length, y + it[1] / page.example.points.length], [0, 0])"));
         await tab.until('document.getElementById("shown-segment").textContent.startsWith("hits the first hull")');
     });
+    await tried("arrows move the segment of the example", async () => {
+        await value("document.getElementById('plane').focus()");
+        const before = await value("page.example.segment.flat()");
+        await tab.key("ArrowUp");
+        await tab.key("ArrowLeft", "Shift");
+        assert.deepEqual(await value("page.example.segment.flat()"), before.map((it, i) => it + (i % 2 ? 10 : -100)));
+    });
     await tried("the example's answers are in sight without scrolling", async () => assert.ok(await isInSight("plane", "shown", "own")));
     await tried("pictures of the example, light and dark", async () => {
         await value("scrollTo(0, 0)");
@@ -188,6 +195,37 @@ async function tryMouse() {
         assert.match(await text("spoken"), /1, 1 of them vertices.*\(1, 10\) is on/);
         assert.deepEqual(await value('["role", "aria-live"].map((it) => document.getElementById("spoken").getAttribute(it))'), ["status", "polite"]);
         assert.equal(await value('document.querySelectorAll("#drawn [aria-live], #drawn[aria-live], #drawn[role]").length'), 0);
+    });
+    await tried("the cross can be moved over any view by keys, which keep it in sight", async () => {
+        const seen = () => value("page.view.toScreen(page.cursor).every((it, axis) => it >= 0 && it <= page.view.size[axis])");
+        await anew();
+        await value("(page.cursor = null, document.getElementById('plane').focus())");
+        for (let i = 0; i < 14; i++) await tab.key("ArrowRight", "Shift");
+        assert.deepEqual([await value("page.cursor.join()"), await seen()], ["140,0", true]);
+        const scale = await value("page.view.scale");
+        await tab.key("+");
+        assert.deepEqual([await value("page.view.scale"), await value("page.cursor.join()"), await seen()], [2 * scale, "140,0", true]);
+        for (let i = 0; i < 2; i++) await tab.key("-");
+        assert.equal(await value("page.view.scale"), scale / 2);
+        // a view in which a unit is far less than a pixel
+        await choose(file("far.csv", "x,y\n-1000000000,0\n1000000000,0\n0,900000000\n"));
+        await value("(page.cursor = null, document.getElementById('plane').focus())");
+        const before = await value("page.view.toScreen(page.view.middle.map(Math.round))");
+        await tab.key("ArrowLeft");
+        const after = await value("page.view.toScreen(page.cursor)");
+        assert.ok(Math.abs(before[0] - after[0] - 8) < 1 && before[1] === after[1], `${before} ${after}`);
+        const points = [];
+        for (const keys of [["n"], ["n"], ["N", "Shift"], ["n"], ["n"], ["n"]]) {
+            await tab.key(...keys);
+            points.push(await value("page.cursor.join()"));
+        }
+        const [first, second, third] = ["-1000000000,0", "1000000000,0", "0,900000000"];
+        assert.deepEqual(points, [first, second, first, second, third, first]);
+        await tab.key("Delete");
+        assert.equal((await calls()).at(-1), "remove -1000000000 0 = removed");
+        await tab.key("U", "Shift");
+        assert.equal((await calls()).at(-1), "add -1000000000 0 = added");
+        await anew();
     });
     await tried("the list has only what is seen, and a line that is pressed is gone to", async () => {
         await anew();

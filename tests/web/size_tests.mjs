@@ -5,7 +5,7 @@ import { gunzipSync, gzipSync } from "node:zlib";
 import { bundled, minified, part, shaken } from "../../web/shrink.mjs";
 
 const MOST = 47300; // bytes of the page's module and of the library in its script, each as gzip packs it
-const WHOLE = 65800; // bytes of the page, all in one file, as gzip packs it
+const WHOLE = 66100; // bytes of the page, all in one file, as gzip packs it
 const page = readFileSync(process.argv[2], "utf8"), packed = (text) => gzipSync(text, { level: 9 }).length;
 const script = /<script type="module">([^]*?)<\/script>/.exec(page)[1], module = Buffer.from(/"(H4sI[^"]*)"/.exec(script)[1], "base64");
 
