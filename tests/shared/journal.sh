@@ -1,7 +1,8 @@
 #!/bin/sh
 # Tests the journal file (c/journal.c): every code and each length that its end may be cut to (journals.c), the order of its calls of the system
-# and each of them refused (journal_steps.c), changed bytes (sums.c), what it has to bear (edges.c), processes that are killed at random moments
-# (kills.c) and a service of 64 threads that is killed and continued (service.c). The last line is 'N passed, M failed'.
+# and each of them refused (journal_steps.c), changed bytes (sums.c), what it has to bear (edges.c), static programs and objects that are unloaded
+# (loaded.c), processes that are killed at random moments (kills.c) and a service of 64 threads that is killed and continued (service.c). The last
+# line is 'N passed, M failed'.
 #
 #     tests/shared/journal.sh [KILLS [CALLS]]    so many kills, 40 if not given, and calls, 40000; `.ci/run --all-mutants` takes 150 and 200000
 set -u
@@ -58,6 +59,18 @@ all_edges() {
     edges "the same by sanitizers" bears_
 }
 
+# programs that are linked statically, and a shared object that is unloaded
+otherwise_linked() {
+    build "$here/loaded.c" -fPIC -shared -DOBJECT && mv "$room/loaded" "$room/loaded.so" &&
+        build "$here/loaded.c" -DLOADS -ldl && "$room/loaded" "$room/loaded.journal" "$room/loaded.so"
+    count "a fork after a shared object with the library was unloaded" $?
+    if ! echo 'int main(void) { return 0; }' | cc -static -x c -o "$room/static" - 2>"$room/output"; then skip "a static program" libc.a; return; fi
+    build "$here/loaded.c" -static && "$room/loaded" "$room/static.journal"
+    count "a static program that does not fork" $?
+    build "$here/loaded.c" -static -DFORKS && "$room/loaded" "$room/static.journal"
+    count "one that does" $?
+}
+
 # a process that keeps a journal is killed
 killed() {
     # shellcheck disable=SC2046,SC2086 # the flags are separated by spaces
@@ -78,6 +91,7 @@ codes
 steps
 changed_files
 all_edges
+otherwise_linked
 killed
 services
 end
