@@ -1,5 +1,5 @@
 -- A bucket below a node that changed, and the forks above it.
-use Rattle.std.proofs.Common.{◌≡◌, ℕ, ◌≤◌, Bool, true, false, refl, sym, ap, ◌∙◌, subst, Box, inl, inr, ◌+◌, arith}
+use Rattle.std.proofs.Common.{◌≡◌, ℕ, ◌≤◌, Bool, true, false, cond, not, refl, sym, ap, ◌∙◌, subst, Box, inl, inr, ◌+◌, arith}
 use Rattle.lattice.specs.Plane.{Pair, IsBefore}
 use Rattle.hull_buckets.specs.Buckets.{BucketValue}
 use Rattle.bucket_tree.specs.Changes.{change_of}
@@ -121,35 +121,62 @@ none_below put p n m below e d = go n (subst (λ z. HasChangedBelow put p n z be
     go (Fork' k i le l re r u lo) d = d
     go Taken d = d
 
+-- the half of a fork into which another one was put is that one
+pub half_with : (left : Bool) (f : Below) (k : Node) → half_of left (with_half left f k) ≡ k
+half_with true f k = refl
+half_with false f k = refl
+
+-- and the other one stays
+pub other_half : (left : Bool) (f : Below) (k : Node) → half_of (not left) (with_half left f k) ≡ cond left f.right f.left
+other_half true f k = refl
+other_half false f k = refl
+
 -- of two nodes put into one half after the other the second one stays
 pub with_again : (left : Bool) (f : Below) (k m : Node) → with_half left (with_half left f k) m ≡ with_half left f m
 with_again true f k m = refl
 with_again false f k m = refl
+
+-- so a fork of which the half was taken out, and m put in, is the fork with m there
+pub put_back : (left : Bool) (f g d : Below) (k m : Node) → d ≡ with_half left f k → f ≡ g → with_half left d m ≡ with_half left g m
+put_back left f g d k m v e = ap (λ z. with_half left z m) v ∙ with_again left f k m ∙ ap (λ z. with_half left z m) e
 
 -- the half is lower than the fork
 pub half_lower : (left : Bool) (m : Node) (h : ℕ) (b : Box Below _) → m ≡ Fork h b → node_height (half_of left b.value) + 1 ≤ node_height m
 half_lower true m h b e = let s = ap node_height e in omega (arith, s)
 half_lower false m h b e = let s = ap node_height e in omega (arith, s)
 
--- ---- a fork g whose half, below which a bucket changed, was renewed
+-- ---- a fork whose half, below which a bucket changed, was renewed
 
-module _ (left put : Bool) (p : Pair) (m : Node) (h : ℕ) (b : Box Below _) (g : Below) (k : Node) (below above : Changed) (e : m ≡ Fork h b)
-    (here : BelongsTo left p b.value.right_ends.first) (v : g ≡ with_half left b.value k)
-    (rec : (x : Node) → IsChangeable put x → HasChangedBelow put p x (half_of left b.value) below → HasChanged put p x k above) where
-  module _ (n : Node) (c : IsChangeable put n) (d : HasChangedBelow put p n m below) where
-    o : IsOpened left put p n h b.value below
-    o = opened left put p n h b below c.built here (subst (λ z. HasChangedBelow put p n z below) e d)
+-- m is the fork b, opened at the half to which p belongs, if the node that it was could be changed
+pub opened_below : (left put : Bool) (p : Pair) (n m : Node) (h : ℕ) (b : Box Below _) (below : Changed) → m ≡ Fork h b
+    → BelongsTo left p b.value.right_ends.first → IsChangeable put n → HasChangedBelow put p n m below
+    → IsOpened left put p n h b.value below
+opened_below left put p n m h b below e here c d =
+    opened left put p n h b below c.built here (subst (λ z. HasChangedBelow put p n z below) e d)
 
-    half : HasChanged put p (half_of left o.old) k above
-    half = rec (half_of left o.old) (changeable_half left put p n h o.old o.at c) o.changed
+-- m is the fork b, and g is this fork with k in the place of the half to which p belongs, which has become k
+pub record IsHalfRenewed (left put : Bool) (p : Pair) (m : Node) (h : ℕ) (b : Box Below _) (g : Below) (k : Node) (below above : Changed)
+    : Type 0 where
+  pub fork : m ≡ Fork h b
+  pub here : BelongsTo left p b.value.right_ends.first
+  pub value : g ≡ with_half left b.value k
+  pub becomes : (x : Node) → IsChangeable put x → HasChangedBelow put p x (half_of left b.value) below → HasChanged put p x k above
 
-    value : g ≡ with_half left o.old k
-    value = v ∙ ap (λ z. with_half left z k) o.value ∙ with_again left o.old (half_of left b.value) k
+module _ {left put : Bool} {p : Pair} {m : Node} {h : ℕ} {b : Box Below _} {g : Below} {k : Node} {below above : Changed}
+    (r : IsHalfRenewed left put p m h b g k below above) (n : Node) (c : IsChangeable put n) (d : HasChangedBelow put p n m below) where
+  o : IsOpened left put p n h b.value below
+  o = opened_below left put p n m h b below r.fork r.here c d
 
-    -- it is to be renewed
-    pub renewable : (change : Change) → change ≡ change_of left put → IsToRenew left change p above g
-    renewable change is = to_renew left put change p n h o.old g k above o.at half c.few c.low value is
+  half : HasChanged put p (half_of left o.old) k above
+  half = r.becomes (half_of left o.old) (changeable_half left put p n h o.old o.at c) o.changed
 
-    -- and renewed it has changed
-    pub renewed : (a : Box Below _) (last : Changed) → IsRenewedAfter p above g a.value last → HasChanged put p n (Fork h a) last
-    renewed a last r = changed_with left put p n h o.old g k above last a o.at half c.few c.low value r
+  value : g ≡ with_half left o.old k
+  value = r.value ∙ ap (λ z. with_half left z k) o.value ∙ with_again left o.old (half_of left b.value) k
+
+  -- it is to be renewed
+  pub renewable : (change : Change) → change ≡ change_of left put → IsToRenew left change p above g
+  renewable change is = to_renew left put change p n h o.old g k above o.at half c.few c.low value is
+
+  -- and renewed it has changed
+  pub renewed : (a : Box Below _) (last : Changed) → IsRenewedAfter p above g a.value last → HasChanged put p n (Fork h a) last
+  renewed a last s = changed_with left put p n h o.old g k above last a o.at half c.few c.low value s

@@ -6,7 +6,7 @@ use Rattle.std.proofs.Common.{Box, Some, Ok, Err}
 use Rattle.std.specs.Box.{with_value}
 use Rattle.std.specs.List.{Contains}
 use Rattle.std.proofs.lemmas.List.Elements.{Contains-append_left, Contains-append_right}
-use Rattle.std.specs.Prelude.{IsTrue, Result, IfOk, IfErr}
+use Rattle.std.specs.Prelude.{◌↔◌, IsTrue, Result, IfOk, IfErr}
 use Rattle.lattice.specs.Covers.{with_point, without_point}
 use Rattle.std.proofs.Common.{inl, inr}
 use Rattle.std.proofs.lemmas.Bool.{false≢true}
@@ -40,7 +40,7 @@ use Rattle.bucket_tree.proofs.Kept.{DiffersAt, differs_with, differs_without, un
 use Rattle.bucket_tree.proofs.Kept.{of_vertices, stored}
 use Rattle.bucket_tree.proofs.Parts.{BelongsTo, HasSpaceFor, IsAt, alters_with, at, is_refused, unaffected_with, differs, few_with}
 use Rattle.bucket_tree.proofs.Parts.{row_with}
-use Rattle.bucket_tree.proofs.Parts.{same_at, stands_with}
+use Rattle.bucket_tree.proofs.Parts.{same_at, still_with}
 use Rattle.bucket_tree.proofs.MostTurns.{few_turns, one_fork}
 use Rattle.bucket_tree.proofs.Rooted.{absent_below}
 use Rattle.bucket_tree.proofs.SetEnds.{by_first, by_last, first_among, last_among}
@@ -223,7 +223,7 @@ edges_with left kind p f k sides row b h d c =
     let g = with_half left f k in
     let e = edges_as p sides g.left g.right f g
     (unaffected_with left kind p f.left f.right k sides f row b h d c)
-    (λ side. stands_with left side p f.left f.right k (edge_on side f) (b side) d) (same_edges f g refl refl) in
+    (λ side. still_with left side p f.left f.right k (edge_on side f) (b side) d) (same_edges f g refl refl) in
     record { unaffected = e.0; clear = e.1 }
 
 -- and so is the fork
@@ -368,6 +368,16 @@ pub belongs : (left : Bool) (p first : Pair) → (IsTrue left → IsBefore p fir
     → BelongsTo left p first
 belongs true p first f g = f refl
 belongs false p first f g = λ h. false≢true (g h)
+
+-- so it is, if that point was read in the fork
+pub belongs_below : (left : Bool) (p : Pair) (f g : Below) → f ≡ g → (IsTrue left ↔ IsBefore p f.right_ends.first)
+    → BelongsTo left p g.right_ends.first
+belongs_below left p f g e t = subst (λ (z : Below). BelongsTo left p z.right_ends.first) e (belongs left p f.right_ends.first t.0 t.1)
+
+-- and the fork is taken apart at it
+pub fork_below : (left : Bool) (p : Pair) (n : Node) (h : ℕ) (b : Box Below _) (f : Below) → n ≡ Fork h b → f ≡ b.value → IsWellBuilt n
+    → (IsTrue left ↔ IsBefore p f.right_ends.first) → IsForkAt left p n h b.value
+fork_below left p n h b f e v w t = fork_at left p n h b b.value b.value e refl refl w (belongs_below left p f b.value v t)
 
 -- the points of the part are among those of both
 pub among_with : (left : Bool) (l r k : Node) (t : Pair) → Contains (points_below k) t

@@ -198,12 +198,12 @@ count_in left n h f p e w b = same_at left p n f.value.left f.value.right
 -- ---- bridges
 
 -- a bridge of which p is clear stays valid, if one subtree changed at p
-pub stands_with : (left : Bool) (side : Side) (p : Pair) (l r m : Node) (e : Pair × Pair) → IsBridgeBetween side l r e
+pub still_with : (left : Bool) (side : Side) (p : Pair) (l r m : Node) (e : Pair × Pair) → IsBridgeBetween side l r e
     → DiffersAt p (points_below (cond left l r)) (points_below m) → IsClearOf side e p
     → IsBridgeBetween side (cond left m l) (cond left r m) e
-stands_with true side p l r m e b d z = still side p (points_below l) (points_below r) (points_below m) (points_below r)
+still_with true side p l r m e b d z = still side p (points_below l) (points_below r) (points_below m) (points_below r)
     e b d (differs_not p (points_below r)) z
-stands_with false side p l r m e b d z =
+still_with false side p l r m e b d z =
     still side p (points_below l) (points_below r) (points_below l) (points_below m)
     e b (differs_not p (points_below l)) d z
 
@@ -237,7 +237,7 @@ pub unaffected_with : (left : Bool) (kind : Kind) (p : Pair) (l r m : Node) (sid
     → is_affected side sides ≡ false → IsBridgeBetween side (cond left m l) (cond left r m) (edge_on side f)
 unaffected_with left (Comes true) p l r m sides f row b h d c side o =
     same_with left side l r m (edge_on side f) h.0 (b side)
-unaffected_with left (Comes false) p l r m sides f row b h d c side o = stands_with left side p l r m (edge_on side f)
+unaffected_with left (Comes false) p l r m sides f row b h d c side o = still_with left side p l r m (edge_on side f)
     (b side) d (clear_with left side p l r m (edge_on side f) row (b side) d (c refl side o))
-unaffected_with left Goes p l r m sides f row b h d c side o = stands_with left side p l r m (edge_on side f)
+unaffected_with left Goes p l r m sides f row b h d c side o = still_with left side p l r m (edge_on side f)
     (b side) d (clear_with left side p l r m (edge_on side f) row (b side) d (c refl side o))

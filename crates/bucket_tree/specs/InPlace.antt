@@ -83,8 +83,8 @@ abbrev pub HasChangedIn : Bool → Pair → BucketValue → BucketValue → Chan
 HasChangedIn true = HasPutInto
 HasChangedIn false = HasTakenFrom
 
--- The bucket below a node to which p belongs was changed, and nothing else: of each fork on the way only the half that contains it is another one, so the
--- edges and ends there are those of before.
+-- The bucket below a node to which p belongs was changed, and nothing else: of each fork on the way only the half that contains it is another one, so
+-- the edges and ends there are those of before.
 abbrev pub HasChangedBelow : Bool → Pair → Node → Node → Changed → Type 0
 HasChangedBelow put p (Leaf b) (Leaf c) change = IsBucket c.value × HasChangedIn put p b.value c.value change
 HasChangedBelow put p (Fork' h i old_left_ends old_left old_right_ends old_right old_upper old_lower)

@@ -173,8 +173,8 @@ fn change_bucket<C: InPlace>(node: &mut Node, p: Point, outcome: &mut Result<Cha
     }
 }
 
-/// Renews the forks below a node on the way to the bucket from which a point was removed, the lowest first. At first the change is that of the bucket,
-/// in the end that of the node.
+/// Renews the forks below a node on the way to the bucket from which a point was removed, the lowest first. At first the change is that of the
+/// bucket, in the end that of the node.
 fn renew_bottom_up(node: &mut Node, p: Point, change: &mut Changed)
     requires { (n : Node) × IsChangeable false n × HasChangedBelow false p n node.old change.old }
     ensures { (n : Node) → IsChangeable false n → HasChangedBelow false p n node.old change.old → HasChanged false p n node.new change.new }

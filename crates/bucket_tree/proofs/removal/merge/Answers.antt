@@ -28,7 +28,9 @@ returns-clause-built c =
 pub returns-clause-closes : goal.returns-clause-closes
 returns-clause-closes c =
     closes_by c.args.p c.args.sides record { lower = c.stays_affected.result; upper = c.stays_affected-2.result } _
-    (λ e. covered_at Lower c.args.p c.args.sides c.args.place.value c.requires.edges c.args.sides.lower (subst (λ (f : Fork). (c.args.sides.lower ≡ false)
-    ⊎ IsInwards Lower f.lower.0 f.lower.1 c.args.p) c.deref.ensures (c.stays_affected.ensures e)))
-    (λ e. covered_at Upper c.args.p c.args.sides c.args.place.value c.requires.edges c.args.sides.upper (subst (λ (f : Fork). (c.args.sides.upper ≡ false)
-    ⊎ IsInwards Upper f.upper.0 f.upper.1 c.args.p) c.deref-2.ensures (c.stays_affected-2.ensures e)))
+    (λ e. covered_at Lower c.args.p c.args.sides c.args.place.value c.requires.edges c.args.sides.lower
+    (subst (λ (f : Fork). (c.args.sides.lower ≡ false) ⊎ IsInwards Lower f.lower.0 f.lower.1 c.args.p) c.deref.ensures
+    (c.stays_affected.ensures e)))
+    (λ e. covered_at Upper c.args.p c.args.sides c.args.place.value c.requires.edges c.args.sides.upper
+    (subst (λ (f : Fork). (c.args.sides.upper ≡ false) ⊎ IsInwards Upper f.upper.0 f.upper.1 c.args.p) c.deref-2.ensures
+    (c.stays_affected-2.ensures e)))
