@@ -19,20 +19,20 @@ pub record WereEnds (p : Pair) (e : Ends) (S : List Pair) : Type 0 where
   pub last_kept : IsBefore p e.last → e.last ≡ last_of S
   pub last_new : ¬ IsBefore p e.last → p ≡ last_of S
 
--- a well-built node with the points of the half, in a row with the other half, of which the fork stores the ends
-pub record StandsIn (left : Bool) (f : Fork) (m : Node) : Type 0 where
+-- a substitute for the half: a well-built node with its points, in a row with the other half, of which the fork stores the ends
+pub record IsSubstitute (left : Bool) (f : Fork) (m : Node) : Type 0 where
   pub points : points_below m ≡ points_below (half_of left f)
   pub row : AreInRow (cond left m f.left) (cond left f.right m)
   pub few : length (points_below f.left ++ points_below f.right) ≤ POINT_LIMIT
   pub ends : ends_of_half (not left) f ≡ ends_in (points_below (half_of (not left) f))
 
--- some node stands in for the half
-abbrev pub HasStandIn : Bool → Fork → Type 0
-HasStandIn left f = (m : Node) × StandsIn left f m
+-- the half has one
+abbrev pub HasSubstitute : Bool → Fork → Type 0
+HasSubstitute left f = (m : Node) × IsSubstitute left f m
 
 -- the fork has to be renewed: its edges are bridges unless p may have altered them, and the ends of the half are those before p was added
 pub record IsToRenewOver (left : Bool) (p : Pair) (change : Changed) (f : Fork) : Type 0 where
-  pub half : HasStandIn left f
+  pub half : HasSubstitute left f
   pub edges : HasEdgesAfter p change.sides f
   pub end : (side : Side) → IsEndUnlessClear (change_of left true) side p f.left f.right (edge_on side f)
   pub ends : WereEnds p (ends_of_half left f) (points_below (half_of left f))

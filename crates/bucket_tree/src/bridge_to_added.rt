@@ -3,7 +3,7 @@ ghost use Rattle.std.specs.Prelude.{◌≤◌, ◌+◌, true, not};
 ghost use Rattle.bucket_tree.specs.Changes.{IsBridgeBetween, IsEndOf, change_of, edge_on};
 ghost use Rattle.bucket_tree.specs.Halves.{half_of};
 ghost use Rattle.bucket_tree.specs.Nodes.{node_height};
-ghost use Rattle.bucket_tree.specs.TopDown.{HasStandIn};
+ghost use Rattle.bucket_tree.specs.TopDown.{HasSubstitute};
 
 use crate::node::Fork;
 use crate::other_end::{BridgeEnd, other_end};
@@ -18,7 +18,7 @@ pub(crate) fn search_to_added(
     is_left: bool,
     p: Point,
 ) -> ((Point, Point), u32)
-    requires half { HasStandIn is_left fork.now }
+    requires half { HasSubstitute is_left fork.now }
     requires end { IsEndOf (change_of is_left true) side p fork.now.left fork.now.right (edge_on side fork.now) }
     ensures bridge { IsBridgeBetween side fork.now.left fork.now.right result.0 }
     ensures turns { result.1 ≤ node_height (half_of (not is_left) fork.now) + 6 }

@@ -7,7 +7,7 @@ ghost use Rattle.bucket_tree.specs.Changes.{HasEdgesAfter, HasEnds, IsBridgeBetw
 ghost use Rattle.bucket_tree.specs.Halves.{half_of};
 ghost use Rattle.bucket_tree.specs.InPlace.{HasChanged, HasChangedBelow, IsChangeable};
 ghost use Rattle.bucket_tree.specs.Nodes.{ends_in, node_height};
-ghost use Rattle.bucket_tree.specs.TopDown.{HasStandIn, IsToRenewOver, WereEnds};
+ghost use Rattle.bucket_tree.specs.TopDown.{HasSubstitute, IsToRenewOver, WereEnds};
 ghost use Rattle.bucket_tree.specs.Turns.{most_turns};
 ghost use Rattle.bucket_tree.specs.declared.node.Node.{Node};
 
@@ -61,7 +61,7 @@ fn extend(ends: &mut Ends, p: Point)
 /// chain is skipped. Returns the turns of the search.
 #[inline(always)]
 fn renew_edge_to_added(side: Side, fork: &mut Fork, is_left: bool, p: Point, at_issue: bool) -> u32
-    requires half { HasStandIn is_left fork.old }
+    requires half { HasSubstitute is_left fork.old }
     requires unaffected { at_issue ≡ false → IsBridgeBetween side fork.old.left fork.old.right (edge_on side fork.old) }
     requires clear { IsClearOf side (edge_on side fork.old) p → IsBridgeBetween side fork.old.left fork.old.right (edge_on side fork.old) }
     requires end { IsEndUnlessClear (change_of is_left true) side p fork.old.left fork.old.right (edge_on side fork.old) }
@@ -102,7 +102,7 @@ fn extend_half(fork: &mut Fork, is_left: bool, p: Point, change: &Changed)
 /// Renews the edges of a fork on the affected chains, after a point was added to one half. Returns the turns of the searches.
 #[inline(always)]
 fn renew_edges_to_added(fork: &mut Fork, is_left: bool, p: Point, change: &Changed) -> u32
-    requires half { HasStandIn is_left fork.old }
+    requires half { HasSubstitute is_left fork.old }
     requires edges { HasEdgesAfter p change.now.sides fork.old }
     requires end { (side : Side) → IsEndUnlessClear (change_of is_left true) side p fork.old.left fork.old.right (edge_on side fork.old) }
     requires low { node_height (half_of (not is_left) fork.old) ≤ 28 }

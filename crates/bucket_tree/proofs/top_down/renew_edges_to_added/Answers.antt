@@ -5,7 +5,7 @@ use Rattle.lattice.specs.declared.side.Side.TheVariants.{Lower, Upper}
 use Rattle.bucket_tree.specs.Changes.{IsClearOf, change_of}
 use Rattle.bucket_tree.proofs.Added.{end_moved}
 use Rattle.bucket_tree.proofs.InPlace.{lower_moved}
-use Rattle.bucket_tree.proofs.TopDown.{both_moved, stand_in_moved}
+use Rattle.bucket_tree.proofs.TopDown.{both_moved, substitute_moved}
 use Rattle.bucket_tree.proofs.top_down.renew_edges_to_added.Goals as goal
 
 pub renew_edge_to_added-upper-requires-clause-unaffected : goal.renew_edge_to_added-upper-requires-clause-unaffected
@@ -19,7 +19,7 @@ renew_edge_to_added-upper-requires-clause-end c = c.requires.end Upper
 
 pub renew_edge_to_added-lower-requires-clause-half : goal.renew_edge_to_added-lower-requires-clause-half
 renew_edge_to_added-lower-requires-clause-half c =
-    stand_in_moved c.args.is_left Upper c.args.fork.now c.renew_edge_to_added-upper.new.fork c.renew_edge_to_added-upper.ensures.same
+    substitute_moved c.args.is_left Upper c.args.fork.now c.renew_edge_to_added-upper.new.fork c.renew_edge_to_added-upper.ensures.same
     c.requires.half
 
 pub renew_edge_to_added-lower-requires-clause-unaffected : goal.renew_edge_to_added-lower-requires-clause-unaffected
