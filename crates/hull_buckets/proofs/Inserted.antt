@@ -11,7 +11,7 @@ use Rattle.hull_geometry.specs.Mending.{IsOverEdge}
 use Rattle.hull_geometry.specs.Monotone.{IsChainOf, IsPassed, IsConvex}
 use Rattle.hull_geometry.specs.Positions.{IsPositionOf, point_at}
 use Rattle.hull_geometry.proofs.Mended.{put_in_same, put_in_new}
-use Rattle.hull_geometry.proofs.Passes.{convex_left, convex_right, passed_through}
+use Rattle.hull_geometry.proofs.Passes.{convex_left, convex_right}
 use Rattle.hull_buckets.specs.Buckets.{IsMaskOf}
 use Rattle.hull_buckets.specs.Masks.{at_places, without_place, AreApart}
 use Rattle.hull_buckets.proofs.Around.{take_front, drop_front, others_count, put_back, between_lists}
@@ -117,10 +117,9 @@ module _ (side : Side) (S : List Pair) (old k : ℕ) (ordered : IsPointSet S) (l
   }
 
   -- otherwise the pass goes over the vertices before it, the point, and those after it
-  pub comes : (front new : ℕ) → ¬ (IsOverEdge side (left ++ right) (length left) (point_at S k))
-      → IsPassed side (left ++ point_at S k ∷ []) (at_places front S)
-      → IsPassed side (at_places front S ++ right) (at_places new S) → new < 2 ^ length S → IsMaskOf side S new
-  comes front new none h q within = record {
+  pub comes : (new : ℕ) → ¬ (IsOverEdge side (left ++ right) (length left) (point_at S k))
+      → IsPassed side (left ++ point_at S k ∷ [] ++ right) (at_places new S) → new < 2 ^ length S → IsMaskOf side S new
+  comes new none passed within = record {
     within = within;
     chain = subst (λ (z : List Pair). IsChainOf side z (at_places new S)) (put_back S k ordered l)
         (put_in_new side (without_place k S) (left ++ right) (at_places new S) (point_at S k) (length left) position
@@ -129,8 +128,7 @@ module _ (side : Side) (S : List Pair) (old k : ℕ) (ordered : IsPointSet S) (l
         (at_places new S))
         (sym (take_front left right))
         (subst (λ (z : List Pair). IsPassed side (left ++ point_at S k ∷ [] ++ z) (at_places new S))
-        (sym (drop_front left right))
-        (passed_through side (left ++ point_at S k ∷ []) (at_places front S) right (at_places new S) h q))) old_chain);
+        (sym (drop_front left right)) passed)) old_chain);
   }
 
 -- what is known of the masks of the vertices before a point and after it
@@ -143,10 +141,9 @@ pub record AreBeside (side : Side) (S : List Pair) (k low high : ℕ) : Type 0 w
   pub right_convex : IsConvex side (at_places high S)
   pub stays : IsOverEdge side (at_places low S ++ at_places high S) (length (at_places low S)) (point_at S k)
       → IsMaskOf side S (low + high)
-  pub comes : (front new : ℕ)
+  pub comes : (new : ℕ)
       → ¬ (IsOverEdge side (at_places low S ++ at_places high S) (length (at_places low S)) (point_at S k))
-      → IsPassed side (at_places low S ++ point_at S k ∷ []) (at_places front S)
-      → IsPassed side (at_places front S ++ at_places high S) (at_places new S) → new < 2 ^ length S
+      → IsPassed side (at_places low S ++ point_at S k ∷ [] ++ at_places high S) (at_places new S) → new < 2 ^ length S
       → IsMaskOf side S new
 
 -- those of the old mask

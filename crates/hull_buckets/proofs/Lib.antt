@@ -11,6 +11,7 @@ pub mod Inserted
 pub mod Joined
 pub mod Removed
 pub mod Rows
+pub mod Ones
 pub mod Changed
 pub mod Covered
 pub mod Outwards

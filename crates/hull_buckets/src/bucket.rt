@@ -11,9 +11,10 @@ ghost use Rattle.hull_buckets.specs.declared.TheConstants.{BUCKET_SIZE};
 
 use super::BUCKET_SIZE;
 use super::mask::has;
+use super::multiplicities::Multiplicities;
 use super::positions::position_of;
 use super::repairing::{all_vertices, vertices_before, vertices_from, with_vertex, without_vertex};
-use super::row::{append, drain, put_in, put_over};
+use super::row::{append, drain, put_in};
 use lattice::{Point, Side};
 use std::marker::Model;
 
@@ -21,14 +22,14 @@ use std::marker::Model;
 #[derive(Drop)]
 pub struct Bucket {
     points: [Point; BUCKET_SIZE],
-    multiplicities: [u16; BUCKET_SIZE],
-    len: usize,
+    multiplicities: Multiplicities,
+    len: u32,
     lower: u64,
     upper: u64,
 }
 
 impl Model for Bucket {
-    ghost use Rattle.std.specs.Prelude.{◌≤◌, take};
+    ghost use Rattle.std.specs.Prelude.{◌≡◌, ◌≤◌, length, take};
     ghost use Rattle.hull_buckets.specs.Buckets.{BucketValue, IsBucket, seen};
     ghost use Rattle.hull_buckets.specs.declared.TheConstants.{BUCKET_SIZE};
 
@@ -36,7 +37,8 @@ impl Model for Bucket {
 
     ghost view = { λ b. seen b.len b.points b.multiplicities b.lower b.upper };
 
-    ghost invariant = { λ b. (b.len ≤ BUCKET_SIZE) × IsBucket (seen b.len b.points b.multiplicities b.lower b.upper) };
+    ghost invariant = { λ b. (b.len ≤ BUCKET_SIZE) × IsBucket (seen b.len b.points b.multiplicities b.lower b.upper)
+        × (length b.multiplicities ≡ BUCKET_SIZE) };
 }
 
 impl Bucket {
@@ -50,7 +52,7 @@ impl Bucket {
     {
         Bucket {
             points: [point; BUCKET_SIZE],
-            multiplicities: [multiplicity; BUCKET_SIZE],
+            multiplicities: Multiplicities::new(&[multiplicity]),
             len: 1,
             lower: 1,
             upper: 1,
@@ -64,7 +66,7 @@ impl Bucket {
         ensures few { length result.now ≤ BUCKET_SIZE }
         ensures ordered { IsPointSet result.now }
     {
-        &self.points[..self.len]
+        &self.points[..self.len as usize]
     }
 
     /// Returns the multiplicity of each point, in the order of the points.
@@ -73,7 +75,7 @@ impl Bucket {
         ensures counted { length result.now ≡ length self.now.points }
         ensures held { All IsMultiplicity result.now }
     {
-        &self.multiplicities[..self.len]
+        self.multiplicities.first(self.len as usize)
     }
 
     /// Whether the bucket has no capacity left.
@@ -87,7 +89,7 @@ impl Bucket {
     pub fn place_of(&self, p: Point) -> Result<usize, usize>
         ensures { IsPositionOf self.now.points p result }
     {
-        position_of(&self.points[..self.len], p)
+        position_of(&self.points[..self.len as usize], p)
     }
 
     /// Returns the indices of the vertices of the chain on a side, as the bits of a word.
@@ -118,7 +120,8 @@ impl Bucket {
         ensures points { self.new.points ≡ self.old.points }
         ensures vertices { (side : Side) → mask_on side self.new ≡ mask_on side self.old }
     {
-        put_over(&mut self.multiplicities, self.len, place, multiplicity);
+        self.multiplicities
+            .set(self.len as usize, place, multiplicity);
     }
 
     /// Inserts a point at its index.
@@ -129,10 +132,11 @@ impl Bucket {
         ensures points { self.new.points ≡ with_point point self.old.points }
         ensures multiplicities { self.new.multiplicities ≡ insert self.old.multiplicities place multiplicity }
     {
-        put_in(&mut self.points, self.len, place, point);
-        put_in(&mut self.multiplicities, self.len, place, multiplicity);
+        put_in(&mut self.points, self.len as usize, place, point);
+        self.multiplicities
+            .insert(self.len as usize, place, multiplicity);
         self.len += 1;
-        let points = &self.points[..self.len];
+        let points = &self.points[..self.len as usize];
         self.lower = with_vertex(Side::Lower, points, self.lower, place);
         self.upper = with_vertex(Side::Upper, points, self.upper, place);
     }
@@ -144,10 +148,10 @@ impl Bucket {
         ensures points { self.new.points ≡ without_point (point_at self.old.points place) self.old.points }
         ensures multiplicities { self.new.multiplicities ≡ remove self.old.multiplicities place }
     {
-        drain(&mut self.points, self.len, place);
-        drain(&mut self.multiplicities, self.len, place);
+        drain(&mut self.points, self.len as usize, place);
+        self.multiplicities.remove(self.len as usize, place);
         self.len -= 1;
-        let points = &self.points[..self.len];
+        let points = &self.points[..self.len as usize];
         self.lower = without_vertex(Side::Lower, points, self.lower, place);
         self.upper = without_vertex(Side::Upper, points, self.upper, place);
     }
@@ -183,13 +187,11 @@ impl Bucket {
         ensures multiplicities { result.multiplicities ≡ multiplicities.now }
     {
         let mut own_points = [points[0]; BUCKET_SIZE];
-        let mut own_multiplicities = [multiplicities[0]; BUCKET_SIZE];
         append(&mut own_points, 0, points);
-        append(&mut own_multiplicities, 0, multiplicities);
         Bucket {
             points: own_points,
-            multiplicities: own_multiplicities,
-            len: points.len(),
+            multiplicities: Multiplicities::new(multiplicities),
+            len: points.len() as u32,
             lower,
             upper,
         }
@@ -202,10 +204,10 @@ impl Bucket {
         ensures points { self.new.points ≡ take len self.old.points }
         ensures multiplicities { self.new.multiplicities ≡ take len self.old.multiplicities }
     {
-        let points = &self.points[..self.len];
+        let points = &self.points[..self.len as usize];
         self.lower = vertices_before(Side::Lower, points, self.lower, len);
         self.upper = vertices_before(Side::Upper, points, self.upper, len);
-        self.len = len;
+        self.len = len as u32;
     }
 
     /// Splits the bucket in the middle: the points of its second half move to the bucket that is returned.
@@ -235,10 +237,11 @@ impl Bucket {
         ensures multiplicities { self.new.multiplicities ≡ self.old.multiplicities ++ other.now.multiplicities }
     {
         let (more, more_multiplicities) = (other.points(), other.multiplicities());
-        append(&mut self.points, self.len, more);
-        append(&mut self.multiplicities, self.len, more_multiplicities);
-        self.len += more.len();
-        let points = &self.points[..self.len];
+        append(&mut self.points, self.len as usize, more);
+        self.multiplicities
+            .append(self.len as usize, more_multiplicities);
+        self.len += more.len() as u32;
+        let points = &self.points[..self.len as usize];
         self.lower = all_vertices(Side::Lower, points);
         self.upper = all_vertices(Side::Upper, points);
     }

@@ -26,6 +26,7 @@ mod bridges;
 mod bucket;
 mod chain;
 mod mask;
+mod multiplicities;
 mod positions;
 mod repairing;
 mod row;

@@ -1,7 +1,8 @@
 //! The chain of a bucket's points after one was added or removed, or of all points.
-ghost use Rattle.std.specs.Prelude.{◌≡◌, ◌↔◌, ◌<◌, ◌≤◌, ◌+◌, ◌%◌, ◌^◌, ◌++◌, IsTrue, length, take, drop};
+ghost use Rattle.std.specs.Prelude.{◌≡◌, ◌↔◌, ◌<◌, ◌≤◌, ◌+◌, ◌%◌, ◌^◌, ◌++◌, ◌∷◌, [], IsTrue, length, take, drop};
 ghost use Rattle.lattice.specs.Covers.{IsPointSet};
 ghost use Rattle.hull_geometry.specs.Mending.{IsOverEdge};
+ghost use Rattle.hull_geometry.specs.Monotone.{IsConvex, IsPassed};
 ghost use Rattle.hull_geometry.specs.Positions.{point_at};
 ghost use Rattle.hull_buckets.specs.Buckets.{AreEnds, IsMaskOf, WasMaskOf};
 ghost use Rattle.hull_buckets.specs.Masks.{at_places, without_place};
@@ -13,6 +14,7 @@ use super::mask::{below, between, bit, first, has, highest, lowest, moved_down, 
 use lattice::{Point, Side};
 
 /// Whether the point at an index is between the last vertex before it and the first one after it, and not outwards of their segment.
+#[inline(always)]
 fn is_covered(side: Side, points: &[Point], low: u64, high: u64, place: usize) -> bool
     requires few { length points.now ≤ BUCKET_SIZE }
     requires within { place < length points.now }
@@ -30,10 +32,31 @@ fn is_covered(side: Side, points: &[Point], low: u64, high: u64, place: usize) -
     !is_convex_at(side, before, points[place], after)
 }
 
+/// Appends the point at an index, and then the vertices of `high`, to the chain of the vertices of `low`, and removes the vertices at which the chain
+/// does not bend then.
+#[inline(never)]
+fn appended(side: Side, points: &[Point], low: u64, place: usize, high: u64) -> u64
+    requires few { length points.now ≤ BUCKET_SIZE }
+    requires ordered { IsPointSet points.now }
+    requires within { place < length points.now }
+    requires low_before { low < 2 ^ place }
+    requires high_after { high % 2 ^ (place + 1) ≡ 0 }
+    requires high_within { high < 2 ^ length points.now }
+    requires low_convex { IsConvex side (at_places low points.now) }
+    requires high_convex { IsConvex side (at_places high points.now) }
+    ensures within { result < 2 ^ length points.now }
+    ensures passed { IsPassed side (at_places low points.now ++ point_at points.now place ∷ [] ++ at_places high points.now)
+        (at_places result points.now) }
+{
+    let front = pushed(side, points, low, place);
+    taken_up(side, points, front, high)
+}
+
 /// Returns the mask of the chain of points of which the one at `place` is new; `old` is that of the others.
 ///
 /// If the point is between two vertices of the old chain and not outwards of their segment, nothing changes. Otherwise the vertices are removed, on
 /// either side, at which the chain to the point does not bend.
+#[inline(always)]
 pub(crate) fn with_vertex(side: Side, points: &[Point], old: u64, place: usize) -> u64
     requires few { length points.now ≤ BUCKET_SIZE }
     requires ordered { IsPointSet points.now }
@@ -46,8 +69,7 @@ pub(crate) fn with_vertex(side: Side, points: &[Point], old: u64, place: usize) 
     if is_covered(side, points, low, high, place) {
         return low + high;
     }
-    let front = pushed(side, points, low, place);
-    taken_up(side, points, front, high)
+    appended(side, points, low, place, high)
 }
 
 /// Returns the chain of the vertices of `low` and the points between them and the vertices of `high`. If there are

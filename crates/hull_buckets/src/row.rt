@@ -1,5 +1,5 @@
 //! The first values of an array as a list: inserting one, removing one, copying some.
-ghost use Rattle.std.specs.Prelude.{◌≡◌, ◌<◌, ◌≤◌, ◌+◌, ◌-◌, ◌++◌, length, take, slice_set};
+ghost use Rattle.std.specs.Prelude.{◌≡◌, ◌<◌, ◌≤◌, ◌+◌, ◌-◌, ◌++◌, length, take};
 ghost use Rattle.std.specs.List.{insert, remove};
 
 use super::BUCKET_SIZE;
@@ -32,14 +32,4 @@ pub(crate) fn append<T: Copy>(items: &mut [T], count: usize, more: &[T])
     ensures len { length items.new ≡ length items.old }
 {
     items[count..count + more.len()].copy_from_slice(more);
-}
-
-/// Overwrites the value at an index of the first `count`.
-pub(crate) fn put_over<T: Copy>(items: &mut [T], count: usize, place: usize, item: T)
-    requires order { place < count }
-    requires within { count ≤ length items.old }
-    ensures items { take count items.new ≡ slice_set (take count items.old) place item }
-    ensures len { length items.new ≡ length items.old }
-{
-    items[place] = item;
 }

@@ -37,15 +37,16 @@ pub invariant_of-self : goal.invariant_of-self
 invariant_of-self c =
     let space : length (take c.self.inside.len c.self.inside.points) < BUCKET_SIZE =
     subst (λ (b : BucketValue). length b.points < BUCKET_SIZE) (sym c.self.view_is) c.requires.space in
-    let n = length-take-le c.self.inside.len c.self.inside.multiplicities (omega (arith, c.self.told, c.self.invariant.0)) in
+    let n = length-take-le c.self.inside.len c.self.inside.multiplicities (omega (arith, c.self.invariant.0, c.self.invariant.2)) in
     let m = c.self.invariant.1.counted in (
       omega (arith, space, n, m),
       grown (seen c.self.inside.len c.self.inside.points c.self.inside.multiplicities c.self.inside.lower c.self.inside.upper) _
           _
           c.args.point c.args.place c.args.multiplicity _ _ c.self.invariant.1
           (subst (λ (b : BucketValue). IsPositionOf b.points c.args.point (Err c.args.place)) (sym c.self.view_is)
-          c.requires.position) space c.requires.held c.put_in.ensures.items c.put_in-2.ensures.items
+          c.requires.position) space c.requires.held c.put_in.ensures.items c.insert.ensures.first
           c.with_vertex-self-inside.ensures c.with_vertex-self-inside-2.ensures,
+      c.insert.ensures.len,
     )
 
 pub returns-clause-points : goal.returns-clause-points

@@ -22,14 +22,15 @@ invariant_of-self c =
     (sym c.points-more.ensures.points) c.requires.order) in
     let counted : length c.multiplicities-more_multiplicities.result.now ≡ length more =
     c.multiplicities-more_multiplicities.ensures.counted ∙ ap (λ (z : List Pair). length z) (sym c.points-more.ensures.points) in
-    let n = length-take-le c.self.inside.len c.self.inside.multiplicities (omega (arith, c.self.told, c.self.invariant.0)) in
+    let n = length-take-le c.self.inside.len c.self.inside.multiplicities (omega (arith, c.self.invariant.0, c.self.invariant.2)) in
     let m = c.self.invariant.1.counted in (
       omega (arith, space, n, m),
       merged (seen c.self.inside.len c.self.inside.points c.self.inside.multiplicities c.self.inside.lower c.self.inside.upper)
           more _
           c.multiplicities-more_multiplicities.result.now _ _ _ c.self.invariant.1 c.points-more.ensures.ordered counted
           c.multiplicities-more_multiplicities.ensures.held order space c.append.ensures.items
-          (ap (λ (k : ℕ). take (c.self.inside.len + k) c.append-2.new.items) (sym counted)
-          ∙ c.append-2.ensures.items)
+          (ap (λ (k : ℕ). take (c.self.inside.len + k) c.append-2.new.self) (sym counted)
+          ∙ c.append-2.ensures.first)
           c.all_vertices-self-inside.ensures c.all_vertices-self-inside-2.ensures,
+      c.append-2.ensures.len,
     )

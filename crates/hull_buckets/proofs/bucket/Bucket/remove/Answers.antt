@@ -30,8 +30,9 @@ invariant_of-self c = (
       c.args.place _ _ c.self.invariant.1
       (subst (λ (b : BucketValue). c.args.place < length b.points) (sym c.self.view_is) c.requires.within)
       (subst (λ (b : BucketValue). 1 < length b.points) (sym c.self.view_is) c.requires.others)
-      c.drain.ensures.items c.drain-2.ensures.items c.without_vertex-self-inside.ensures
+      c.drain.ensures.items c.remove.ensures.first c.without_vertex-self-inside.ensures
       c.without_vertex-self-inside-2.ensures,
+  c.remove.ensures.len,
 )
 
 pub returns-clause-points : goal.returns-clause-points

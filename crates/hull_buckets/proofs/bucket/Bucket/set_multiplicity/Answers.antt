@@ -7,5 +7,6 @@ pub invariant_of-self : goal.invariant_of-self
 invariant_of-self c = (
   c.self.invariant.0,
   held_anew (seen c.self.inside.len c.self.inside.points c.self.inside.multiplicities c.self.inside.lower c.self.inside.upper) _
-      c.args.place c.args.multiplicity c.self.invariant.1 c.requires.held c.put_over.ensures.items,
+      c.args.place c.args.multiplicity c.self.invariant.1 c.requires.held c.set.ensures.first,
+  c.set.ensures.len,
 )

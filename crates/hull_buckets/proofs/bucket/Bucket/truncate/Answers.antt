@@ -12,7 +12,7 @@ invariant_of-self c =
     let b = c.self.invariant.1 in
     let within : c.args.len < length (take c.self.inside.len c.self.inside.points) =
     subst (λ (b : BucketValue). c.args.len < length b.points) (sym c.self.view_is) c.requires.within in
-    let n = length-take-le c.self.inside.len c.self.inside.multiplicities (omega (arith, c.self.told, c.self.invariant.0)) in
+    let n = length-take-le c.self.inside.len c.self.inside.multiplicities (omega (arith, c.self.invariant.0, c.self.invariant.2)) in
     let m = b.counted in
     let few = b.few in
     let short : c.args.len ≤ c.self.inside.len = omega (arith, within, n, m) in
@@ -27,6 +27,7 @@ invariant_of-self c =
           c.vertices_before-self-inside.ensures)
           (subst (λ (z : List Pair). IsMaskOf Upper z c.vertices_before-self-inside-2.result) same
           c.vertices_before-self-inside-2.ensures),
+      c.self.invariant.2,
     )
 
 pub vertices_before-self-inside-requires-clause-mask : goal.vertices_before-self-inside-requires-clause-mask

@@ -15,12 +15,12 @@ pub invariant_of-result : goal.invariant_of-result
 invariant_of-result c =
     let P = first_written c.append.new.items c.args.points.now (length c.args.points.now) (omega arith)
     c.append.ensures.items in
-    let T = first_written c.append-2.new.items c.args.multiplicities.now (length c.args.points.now)
-    (omega (arith, c.requires.counted)) c.append-2.ensures.items in (
+    let T : take (length c.args.points.now) c.new.result ≡ c.args.multiplicities.now =
+    ap (λ (k : ℕ). take k c.new.result) (sym c.requires.counted) ∙ c.new.ensures.first in (
       c.requires.few,
       subst (λ (z : List Pair). IsBucket (record {
         points = z;
-        multiplicities = take (length c.args.points.now) c.append-2.new.items;
+        multiplicities = take (length c.args.points.now) c.new.result;
         lower = c.args.lower;
         upper = c.args.upper;
       })) (sym P)
@@ -33,4 +33,5 @@ invariant_of-result c =
           (made c.args.points.now c.args.multiplicities.now c.args.lower c.args.upper c.requires.some
           c.requires.few c.requires.ordered c.requires.counted c.requires.held c.requires.below
           c.requires.above)),
+      c.new.ensures.len,
     )
