@@ -1,7 +1,7 @@
 -- A point that is added to one of two nodes in a row.
 use Rattle.std.proofs.lemmas.Grind.{common_steps}
 use Rattle.std.proofs.Common.{◌≡◌, ℕ, ◌+◌, ◌<◌, true, false, Bool, refl, sym, ap, ◌∙◌, subst, List, [], ◌∷◌, ◌++◌}
-use Rattle.std.proofs.Common.{length, arith}
+use Rattle.std.proofs.Common.{length, take, ◌-◌, arith}
 use Rattle.std.proofs.Common.{inl, inr, length-append}
 use Rattle.std.specs.List.{All}
 use Rattle.std.proofs.lemmas.List.Elements.{All-cons}
@@ -13,13 +13,16 @@ use Rattle.hull_geometry.proofs.PointLists.{AllPairs-head, all_of}
 use Rattle.hull_geometry.proofs.PointSets.{set_right, set_apart}
 use Rattle.std.proofs.lemmas.List.Elements.{All-weaker}
 use Rattle.hull_set.specs.Held.{once}
-use Rattle.hull_buckets.specs.Buckets.{BucketValue}
 use Rattle.bucket_tree.specs.Counts.{counted, multiplicity_at}
 use Rattle.bucket_tree.specs.declared.node.Node.{Node, Leaf, Fork', Taken}
 use Rattle.bucket_tree.specs.Nodes.{points_below, multiplicities_below, HasBuckets}
 use Rattle.std.specs.Prelude.{IsTrue, get_or}
 use Rattle.hull_geometry.proofs.PointLists.{get_or_free}
 use Rattle.bucket_tree.proofs.Rows.{counted_row}
+use Rattle.std.proofs.Math.Seq.{take-length}
+use Rattle.hull_geometry.proofs.FoundPositions.{below_up_to}
+use Rattle.hull_geometry.proofs.PointLists.{append_none}
+use Rattle.leaf_trees.proofs.Rows.{with_left, with_right}
 
 -- ---- lists
 
@@ -80,27 +83,40 @@ passed b f e = f e
 pub failed : {A : Type 0} (b : Bool) → (A → IsTrue b) → b ≡ false → ¬ A
 failed b f e a = true_is_no_false (sym (f a) ∙ e)
 
--- ---- a bucket that was split
+-- ---- a point before or after all others
 
--- the points of both its parts are its own
-parts_points : (b whole first second f g : BucketValue) → whole ≡ b → whole.points ≡ first.points ++ second.points
-    → f ≡ first → g ≡ second → f.points ++ g.points ≡ b.points
-parts_points b whole first second f g e h u v = grind (arith, common_steps)
+-- all points of a set are before what the last of them is before
+all_before_last : (S : List Pair) (p x : Pair) → IsPointSet S → 0 < length S → x ≡ get_or S (length S - 1) x
+    → IsBefore x p → All (λ t. IsBefore t p) S
+all_before_last S p x s l e b =
+    let n : length S - 1 + 1 ≡ length S = omega (arith, l) in
+    subst (All (λ t. IsBefore t p)) (ap (λ (k : ℕ). take k S) n ∙ take-length S)
+    (below_up_to S p x (length S - 1) s (omega (arith, l)) e b)
 
--- and so are their multiplicities
-parts_multiplicities : (b whole first second f g : BucketValue) → whole ≡ b → whole.multiplicities ≡ first.multiplicities ++ second.multiplicities
-    → f ≡ first → g ≡ second → f.multiplicities ++ g.multiplicities ≡ b.multiplicities
-parts_multiplicities b whole first second f g e h u v = grind (arith, common_steps)
+-- a point after all others comes last
+pub comes_last : (S T : List Pair) (p x : Pair) → IsPointSet S → 0 < length S → T ≡ p ∷ []
+    → x ≡ get_or S (length S - 1) x → IsBefore x p → S ++ T ≡ with_point p S
+comes_last S T p x s l t e b =
+    ap (λ (z : List Pair). S ++ z) t
+    ∙ sym (ap (with_point p) (append_none S) ∙ with_right p S [] (all_before_last S p x s l e b))
 
--- with a point in one of them they have those of the bucket with it
-pub parts_gain : (b whole first second f g : BucketValue) (P : List Pair) (p : Pair) → whole ≡ b
-    → whole.points ≡ first.points ++ second.points → f ≡ first → g ≡ second
-    → P ≡ with_point p (f.points ++ g.points) → P ≡ with_point p b.points
-parts_gain b whole first second f g P p e h u v k =
-    k ∙ ap (with_point p) (parts_points b whole first second f g e h u v)
+-- a point before all others comes first
+pub comes_first : (S T : List Pair) (p x : Pair) → IsPointSet S → 0 < length S → T ≡ p ∷ []
+    → x ≡ get_or S 0 x → IsBefore p x → T ++ S ≡ with_point p S
+comes_first S T p x s l t e b =
+    ap (λ (z : List Pair). z ++ S) t
+    ∙ sym (with_left p [] S (all_after p [] S s (subst (IsBefore p) (sym (read_first S S x refl l e)) b)))
 
--- and have the multiplicities of the bucket, and the point once more
-pub parts_held : (b whole first second f g : BucketValue) (n : ℕ) (p q : Pair) → whole ≡ b
-    → whole.points ≡ first.points ++ second.points → whole.multiplicities ≡ first.multiplicities ++ second.multiplicities → f ≡ first → g ≡ second
-    → n ≡ counted (f.points ++ g.points) (f.multiplicities ++ g.multiplicities) q + once p q → n ≡ counted b.points b.multiplicities q + once p q
-parts_held b whole first second f g n p q e h t u v k = grind (arith, common_steps, counted, once, parts_points, whole, parts_multiplicities)
+-- with it after them they have its multiplicity more
+pub held_last : (S T : List Pair) (M N : List ℕ) (p q : Pair) → length M ≡ length S → T ≡ p ∷ [] → N ≡ 1 ∷ []
+    → counted (S ++ T) (M ++ N) q ≡ counted S M q + once p q
+held_last S T M N p q e t n =
+    ap (λ (z : List Pair). counted (S ++ z) (M ++ N) q) t ∙ ap (λ (z : List ℕ). counted (S ++ p ∷ []) (M ++ z) q) n
+    ∙ (let r = counted_row S (p ∷ []) M (1 ∷ []) q e in omega (arith, r))
+
+-- and so with it before them
+pub held_first : (S T : List Pair) (M N : List ℕ) (p q : Pair) → T ≡ p ∷ [] → N ≡ 1 ∷ []
+    → counted (T ++ S) (N ++ M) q ≡ counted S M q + once p q
+held_first S T M N p q t n =
+    ap (λ (z : List Pair). counted (z ++ S) (N ++ M) q) t ∙ ap (λ (z : List ℕ). counted (p ∷ [] ++ S) (z ++ M) q) n
+    ∙ (let r = counted_row (p ∷ []) S (1 ∷ []) M q refl in omega (arith, r))

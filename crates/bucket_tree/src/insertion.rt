@@ -1,5 +1,5 @@
 //! Adding points.
-ghost use Rattle.std.specs.Prelude.{◌≡◌, ◌<◌, ◌≤◌, ◌+◌, ◌++◌, true, false, Err, length};
+ghost use Rattle.std.specs.Prelude.{◌≡◌, ◌<◌, ◌≤◌, ◌+◌, ◌++◌, ◌∷◌, [], true, false, Err, length};
 ghost use Rattle.std.specs.List.{Contains};
 ghost use Rattle.lattice.specs.Covers.{IsPointSet, with_point};
 ghost use Rattle.hull_buckets.specs.declared.TheConstants.{BUCKET_SIZE};
@@ -95,6 +95,30 @@ fn put_in_either(first: &mut Bucket, second: &mut Bucket, p: Point)
     let _ = put(second, p);
 }
 
+/// Divides a full bucket's points, and a new point that another bucket holds alone, between the two, all of the first before all of the second: in
+/// the middle, or, if the new point is before or after all others, between it and them. So points that come in order fill each bucket.
+fn divide(first: &mut Bucket, second: &mut Bucket, p: Point)
+    requires full { length first.old.points ≡ BUCKET_SIZE }
+    requires absent { ¬ Contains first.old.points p }
+    requires alone { second.old.points ≡ p ∷ [] }
+    requires once { second.old.multiplicities ≡ 1 ∷ [] }
+    ensures points { first.new.points ++ second.new.points ≡ with_point p first.old.points }
+    ensures multiplicities { (q : _) → counted (first.new.points ++ second.new.points)
+        (first.new.multiplicities ++ second.new.multiplicities) q ≡ counted first.old.points first.old.multiplicities q + once p q }
+{
+    buckets_are_sound(first);
+    let points = first.points();
+    if before(points[points.len() - 1], p) {
+        return;
+    }
+    if before(p, points[0]) {
+        mem::swap(first, second);
+        return;
+    }
+    *second = first.split();
+    put_in_either(first, second, p);
+}
+
 /// Returns a bucket that had capacity left with a new point, and the sides on which that is a vertex.
 fn grown(mut bucket: Box<Bucket, Heap>, p: Point) -> (Node, Affected)
     requires absent { ¬ Contains bucket.value.points p }
@@ -151,8 +175,7 @@ fn insert_leaf(alloc: Heap, mut bucket: Box<Bucket, Heap>, p: Point) -> Inserted
     let Ok(mut second) = Box::new(alloc, Bucket::new(p, 1)) else {
         return unchanged(bucket);
     };
-    *second = bucket.split();
-    put_in_either(&mut bucket, &mut second, p);
+    divide(&mut bucket, &mut second, p);
     buckets_are_sound(&bucket);
     buckets_are_sound(&second);
     let (node, turns) = join(Node::Leaf(bucket), Node::Leaf(second), place);

@@ -9,6 +9,7 @@ ghost use Rattle.bucket_tree.specs.InPlace.{IsToBalance};
 ghost use Rattle.bucket_tree.specs.Nodes.{points_below, multiplicities_below, node_height, AreInRow, IsHeightOver, IsWellBuilt};
 ghost use Rattle.bucket_tree.specs.Turns.{most_turns};
 ghost use Rattle.bucket_tree.specs.declared.node.Node.{Leaf};
+ghost use Rattle.bucket_tree.specs.declared.removal.TheConstants.{MERGED};
 
 use crate::insertion::{affected_at, bucket_of};
 use crate::node::{Fork, Node};
@@ -19,7 +20,7 @@ use lattice::{Point, Side, before};
 use std::mem;
 
 /// Two buckets with no more points than this become one when one of them loses a point.
-const MERGED: usize = 48;
+const MERGED: usize = 56;
 
 /// The result of removing a point: the node, or nothing if the point was the only one; how many turns the searches took; and the chains on which the
 /// point may have been a vertex of the hull of all points that were below the node.
@@ -64,7 +65,7 @@ fn remove_leaf(mut bucket: Box<Bucket, Heap>, p: Point) -> Removed
 /// Whether two subtrees are buckets with few points together.
 pub(crate) fn are_few(left: &Node, right: &Node) -> bool
     ensures { result ≡ true → (node_height left.now ≡ 0) × (node_height right.now ≡ 0)
-        × (length (points_below left.now) + length (points_below right.now) ≤ 48) }
+        × (length (points_below left.now) + length (points_below right.now) ≤ MERGED) }
 {
     match (left, right) {
         (Node::Leaf(first), Node::Leaf(second)) => {
@@ -93,7 +94,7 @@ fn merge(mut place: Box<Fork, Heap>, p: Point, sides: Affected) -> Renewed
     requires row { AreInRow place.value.left place.value.right }
     requires left { node_height place.value.left ≡ 0 }
     requires right { node_height place.value.right ≡ 0 }
-    requires few { length (points_below place.value.left) + length (points_below place.value.right) ≤ 48 }
+    requires few { length (points_below place.value.left) + length (points_below place.value.right) ≤ MERGED }
     requires edges { HasEdgesAfter p sides place.value }
     ensures built { IsWellBuilt result.node }
     ensures points { points_below result.node ≡ points_below place.value.left ++ points_below place.value.right }
