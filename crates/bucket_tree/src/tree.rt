@@ -31,7 +31,7 @@ use lattice::{Direction, Point};
 use leaf_trees::{Bridge, Listed};
 use std::marker::Model;
 
-/// A set of points as a balanced tree of forks over buckets of up to 64 points: a point takes 32 to 48 bytes, and most changes search no bridge.
+/// A set of points as a balanced tree of forks over buckets of up to 64 points: a point takes 21 to 36 bytes, and most changes search no bridge.
 ///
 /// Adding or removing a point repairs its bucket, and the bridges of those forks above it whose edges do not cover it. A change of the multiplicity
 /// of a point that stays changes one number. Each question goes down the stored bridges. `add`, `vertices`, the entries and `extend` allocate memory:
