@@ -108,6 +108,23 @@ pub(crate) struct RegroupedTwice {
     pub(crate) turns: u32,
 }
 
+/// Returns the inner edges of the rotations that make the left and the right lower fork, with the edge of the upper one.
+#[inline(always)]
+fn edges_of_both(left: Regrouped, right: Regrouped, outer: (Point, Point)) -> RegroupedTwice
+    requires few { left.turns + right.turns ≤ 1000 }
+    ensures left { result.left ≡ left.inner }
+    ensures right { result.right ≡ right.inner }
+    ensures outer { result.outer ≡ outer }
+    ensures turns { result.turns ≡ left.turns + right.turns }
+{
+    RegroupedTwice {
+        left: left.inner,
+        right: right.inner,
+        outer,
+        turns: left.turns + right.turns,
+    }
+}
+
 /// Returns the edges, on a side, of the forks over `a` and `b`, over `c` and `d`, and over both, which a double
 /// rotation makes: that of the lower two forks in the other direction, and then that of the upper two. `whole`, `low`
 /// and `middle` are the three forks before, from the top.
@@ -139,22 +156,12 @@ fn regroup_twice(
         Rotation::Left => {
             let lower = regroup_forks(side, Rotation::Right, low, middle, c, d);
             let upper = regroup(side, Rotation::Left, edge, lower.outer, split, a, b);
-            RegroupedTwice {
-                left: upper.inner,
-                right: lower.inner,
-                outer: upper.outer,
-                turns: lower.turns + upper.turns,
-            }
+            edges_of_both(upper, lower, upper.outer)
         }
         Rotation::Right => {
             let lower = regroup_forks(side, Rotation::Left, low, middle, a, b);
             let upper = regroup(side, Rotation::Right, edge, lower.outer, split, c, d);
-            RegroupedTwice {
-                left: lower.inner,
-                right: upper.inner,
-                outer: upper.outer,
-                turns: lower.turns + upper.turns,
-            }
+            edges_of_both(lower, upper, upper.outer)
         }
     }
 }
