@@ -2,8 +2,8 @@
  * toolchain's crate `libc` declares, for every processor. Weak, so that both archives can be linked into one object.
  *
  * `ok` is whether there is memory, and `block` its address; if there is none, the address of a byte that no block contains. */
-#if defined(__linux__)
 #include <errno.h>
+#if defined(__linux__)
 #include <stdint.h>
 #include <sys/mman.h>
 #endif
@@ -32,9 +32,7 @@ static void *in_large_pages(void *block, size count) {
     enum { PAGE = 4096, LARGE = 4 << 20, MARGIN = 16 };
     if (block != 0 && count >= LARGE) {
         uintptr_t first = (uintptr_t)block & ~(uintptr_t)(PAGE - 1), end = (uintptr_t)block + count + MARGIN;
-        int saved_errno = errno;
         madvise((void *)first, (end - first + PAGE - 1) & ~(uintptr_t)(PAGE - 1), MADV_HUGEPAGE);
-        errno = saved_errno;
     }
 #else
     (void)count;
@@ -44,15 +42,23 @@ static void *in_large_pages(void *block, size count) {
 
 /* Returns a block of `count` bytes; one of none has as many as its alignment, so that it has an address of its own. */
 __attribute__((weak)) struct tried rattle_alloc(size count, size alignment) {
-    return result_of(in_large_pages(malloc(count ? count : alignment), count));
+    const int saved_errno = errno;
+    const struct tried tried = result_of(in_large_pages(malloc(count ? count : alignment), count));
+    errno = saved_errno;
+    return tried;
 }
 
 /* Returns the block resized to `count` bytes, the first `kept` unchanged; if memory is refused, the old block is unchanged. */
 __attribute__((weak)) struct tried rattle_realloc(void *block, size kept, size count, size alignment) {
+    const int saved_errno = errno;
+    const struct tried tried = result_of(in_large_pages(realloc(block, count ? count : alignment), count));
     (void)kept;
-    return result_of(in_large_pages(realloc(block, count ? count : alignment), count));
+    errno = saved_errno;
+    return tried;
 }
 
 __attribute__((weak)) void rattle_dealloc(void *block) {
+    const int saved_errno = errno;
     free(block);
+    errno = saved_errno;
 }

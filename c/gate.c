@@ -35,11 +35,12 @@
  *    announced: then it takes the post back and looks itself. All these steps have one order, in which each thread's steps keep theirs.
  *    If the look at the slot after a number was announced came before the post, then the look after the post finds the number announced:
  *    a later number is announced only after that one was served. If the look at the slot came after the post, it found the seat posted,
- *    or taken back. Claiming a post and taking it back are changes of one word, so that only one of them succeeds, once. A seat takes
- *    its next number only after its word was changed or its post was taken back, so that one seat is never posted twice, and the slot is
- *    used again only 64 numbers later: after this number was handed on, and so after its claim. A posted thread says that it may sleep
- *    before it falls asleep, which it does only if its word has not changed, and who has changed that word looks later whether the thread
- *    may sleep: so one of the two sees what the other has stored, and a thread that sleeps on a word that was changed is woken.
+ *    or taken back. Until a number is announced only the thread that handed it on changes a post with it; from then on claiming the post
+ *    and taking it back are changes of one word, so that only one of them succeeds, once. A seat takes its next number only after its
+ *    word was changed or its post was taken back, so that one seat is never posted twice, and the slot is used again only 64 numbers
+ *    later: after this number was handed on, and so after its claim. A posted thread says that it may sleep before it falls asleep,
+ *    which it does only if its word has not changed, and who has changed that word looks later whether the thread may sleep: so one of
+ *    the two sees what the other has stored, and a thread that sleeps on a word that was changed is woken.
  * 6. A call that found no space in the journal, if the gate waits for space, sleeps outside the gate and with no number, on a word
  *    that each drain changes after its look. It read that word before it took its number: a drain after its call changes the word
  *    after that reading. The thread that drained for the hook changes the word once more when the hook has ended, since another
@@ -74,17 +75,15 @@ enum {
 enum {
     LOOKS = 20,             /* a caller outside */
     DESIGNATED_LOOKS = 200, /* the designated caller, which a leaving call has to wake again if it sleeps */
-    POSTED_LOOKS = 60,      /* a caller that is posted, at its word, */
-    POSTED_YIELDS = 3,      /* and again so often after it gave its processor to another thread */
-    POST_LOOKS = 40         /* a thread that serves others, at the slot of a number with which no seat is posted yet */
+    POSTED_LOOKS = 10,      /* a caller that is posted, at its word, */
+    POSTED_YIELDS = 10      /* and again so often after it gave its processor to another thread */
 };
 #else
 enum {
     LOOKS = HULL_SHARED_LOOKS,
     DESIGNATED_LOOKS = HULL_SHARED_LOOKS,
     POSTED_LOOKS = HULL_SHARED_LOOKS,
-    POSTED_YIELDS = 0,
-    POST_LOOKS = 0
+    POSTED_YIELDS = 0
 };
 #endif
 
@@ -126,7 +125,6 @@ struct wait_node {
     uint64_t turn;
     uint32_t has_turn; /* HAS_TURN, or HAD_TURN after another thread served that number, or 0 */
     uint32_t notice;   /* the word that it sleeps on while it is posted */
-    uint32_t sleeps;   /* whether it does, or is about to */
     hull_shared_seat *seat;
     unsigned char padding[8];
 };
@@ -154,7 +152,8 @@ struct gate {
     unsigned char padding_2[40];
     /* read by all that are posted */
     uint64_t announced; /* the last number that a thread handed on and did not serve, 0 before the first */
-    unsigned char padding_7[56];
+    uint64_t sleepers;  /* a bit for each seat: whether its thread sleeps while it is posted, or is about to */
+    unsigned char padding_7[48];
     /* the word of the gate, and the queue */
     uint32_t state;
     uint32_t queue_lock; /* also of the count of parked callers in the word */
@@ -185,22 +184,16 @@ struct binding {
     hull_shared_reply reply;
 };
 
-enum { LINE = 64 }; /* of the cache */
-
-static size_t whole_lines(size_t bytes) {
-    return (bytes + LINE - 1) / LINE * LINE;
-}
-
-static size_t binding_offset(void) {
-    return whole_lines(hull_proved_shared_seat_size());
-}
+/* The sizes of a line of the cache, of the lines of a proved seat, and of a seat's storage. (A call is not to ask for the size of a proved seat;
+ * gate_steps.c does.) */
+enum { LINE = 64, PROVED_SEAT = 2 * LINE, SEAT = PROVED_SEAT + (sizeof(struct binding) + LINE - 1) / LINE * LINE };
 
 static struct binding *binding_of(hull_shared_seat *seat) {
-    return (struct binding *)((unsigned char *)seat + binding_offset());
+    return (struct binding *)((unsigned char *)seat + PROVED_SEAT);
 }
 
 size_t hull_shared_seat_size(void) {
-    return binding_offset() + whole_lines(sizeof(struct binding));
+    return SEAT;
 }
 
 /* (So no two seats share a line, which their threads would take from one another.) */
@@ -536,11 +529,13 @@ static int enter(struct gate *gate, uint32_t seat, uint64_t until) {
 /* Leaves while others wait. If callers are parked and none is designated, designates the first of them; if the turn is over, closes the
  * gate to all but the designated caller. */
 OUT_OF_LINE void leave_to_others(struct gate *gate) {
+    const int saved_errno = errno;
     for (;;) {
         uint32_t state = load_state(gate), next = state - 1;
         if (state >= PARKED && (state & DESIGNATED) == 0) {
             HULL_SHARED_STEP("to designate the next");
             designate_next(gate, 1);
+            errno = saved_errno;
             return;
         }
         if ((state & (DESIGNATED | CLOSED)) == DESIGNATED) {
@@ -650,20 +645,31 @@ static int is_post(uint64_t word, uint64_t number) {
     return (word ^ number * ONE_NUMBER) < ONE_NUMBER && word % ONE_SEAT == POSTED;
 }
 
-/* Claims the seat that is posted with a number which was handed on: returns it, or 0 if none is posted. */
+/* Returns the seat of a post, by its word. */
+static uint32_t seat_of(uint64_t post) {
+    return (uint32_t)(post % ONE_NUMBER / ONE_SEAT) + 1;
+}
+
+/* Claims the seat that is posted with a number which this thread handed on and has not announced, so that no other thread changes that post: returns
+ * the seat, or 0 if none is posted. */
 IN_LINE uint32_t claim(struct gate *gate, uint64_t number) {
     uint64_t *slot = slot_of(gate, number), seen = __atomic_load_n(slot, __ATOMIC_SEQ_CST);
     HULL_SHARED_STEP("to claim");
-    if (is_post(seen, number) && try_change_slot(slot, &seen, seen - POSTED + CLAIMED)) {
-        return (uint32_t)(seen % ONE_NUMBER / ONE_SEAT) + 1;
+    if (!is_post(seen, number)) {
+        return 0;
     }
-    return 0;
+    __atomic_store_n(slot, seen - POSTED + CLAIMED, __ATOMIC_RELAXED);
+    return seat_of(seen);
 }
 
-/* Announces a number with which no seat was posted, and looks once more. Returns the seat, or 0 if none is posted. */
+/* Announces a number with which no seat was posted, and claims the seat that is posted by now, unless its thread takes it back. Returns the seat, or
+ * 0 if none is claimed. */
 IN_LINE uint32_t announce_and_claim(struct gate *gate, uint64_t number) {
+    uint64_t *slot = slot_of(gate, number), seen;
     announce(gate, number);
-    return claim(gate, number);
+    seen = __atomic_load_n(slot, __ATOMIC_SEQ_CST);
+    HULL_SHARED_STEP("to claim");
+    return is_post(seen, number) && try_change_slot(slot, &seen, seen - POSTED + CLAIMED) ? seat_of(seen) : 0;
 }
 
 /* Claims the seat that is posted with a number. Returns it, or 0 if none is posted, and the number is announced. */
@@ -672,19 +678,27 @@ IN_LINE uint32_t claim_or_announce(struct gate *gate, uint64_t number) {
     return seat != 0 ? seat : announce_and_claim(gate, number);
 }
 
-/* Reads ahead what a thread needs to serve the seat that is posted with a number, if one is, and the slot after it. */
-static void read_ahead(struct gate *gate, uint64_t number) {
+/* Fetches a line of the cache to be written. (Without a flag, gcc fetches it to be read on x86-64, and it has to be fetched again.) */
+static inline void fetch(const void *at) {
+#if defined(__x86_64__)
+    __asm__ volatile("prefetchw %0" : : "m"(*(const unsigned char *)at));
+#else
+    __builtin_prefetch(at, 1);
+#endif
+}
+
+/* Fetches ahead what a thread needs to serve the seat that is posted with a number, if one is, and the slot after it. */
+static void fetch_ahead(struct gate *gate, uint64_t number) {
     const struct slot *slot = &gate->slots[number % HULL_SHARED_SEATS_MAX];
     const uint64_t word = __atomic_load_n(&slot->word, __ATOMIC_RELAXED);
     const unsigned char *seat = (const unsigned char *)__atomic_load_n(&slot->seat, __ATOMIC_RELAXED);
-    const size_t size = hull_shared_seat_size();
     size_t at;
-    __builtin_prefetch(slot_of(gate, number + 1), 1);
+    __builtin_prefetch(slot_of(gate, number + 1));
     if (is_post(word, number)) {
-        __builtin_prefetch(&gate->nodes[word % ONE_NUMBER / ONE_SEAT], 1);
-        for (at = 0; at < size; at += LINE) {
-            __builtin_prefetch(seat + at, 1);
+        for (at = 0; at < SEAT; at += LINE) {
+            fetch(seat + at);
         }
+        fetch(&gate->nodes[word % ONE_NUMBER / ONE_SEAT]);
     }
 }
 
@@ -694,23 +708,27 @@ static void notify(struct wait_node *node, uint32_t notice) {
     __atomic_store_n(&node->notice, notice, __ATOMIC_RELEASE);
 }
 
-/* Whether the thread of a seat that was given its notice before may sleep, and has to be woken. */
-static int may_sleep(struct wait_node *node) {
-    __atomic_thread_fence(__ATOMIC_SEQ_CST);
-    return __atomic_load_n(&node->sleeps, __ATOMIC_SEQ_CST) != 0;
+static uint64_t bit_of(uint32_t seat) {
+    return UINT64_C(1) << (seat - 1);
 }
 
-static void wake_posted(struct wait_node *node) {
-    HULL_SHARED_STEP("to wake");
-    hull_wake(&node->notice, 1);
+/* Wakes those threads that may sleep among those of these seats, which were given their notices before; not one that is posted again. */
+static void wake_notified(struct gate *gate, uint64_t notified) {
+    uint64_t left;
+    __atomic_thread_fence(__ATOMIC_SEQ_CST);
+    for (left = notified & __atomic_load_n(&gate->sleepers, __ATOMIC_SEQ_CST); left != 0; left &= left - 1) {
+        struct wait_node *node = &gate->nodes[__builtin_ctzll(left)];
+        if (__atomic_load_n(&node->notice, __ATOMIC_RELAXED) != WAITS) {
+            HULL_SHARED_STEP("to wake");
+            hull_wake(&node->notice, 1);
+        }
+    }
 }
 
 /* Leaves the look with a claimed seat to its thread. */
-static void leave_look(struct wait_node *node) {
-    notify(node, IS_TO_LOOK);
-    if (may_sleep(node)) {
-        wake_posted(node);
-    }
+static void leave_look(struct gate *gate, uint32_t seat) {
+    notify(node_of(gate, seat), IS_TO_LOOK);
+    wake_notified(gate, bit_of(seat));
 }
 
 void hull_shared_handed_on(hull_shared_gate *opaque, uint64_t number) {
@@ -718,9 +736,9 @@ void hull_shared_handed_on(hull_shared_gate *opaque, uint64_t number) {
     int saved_errno = errno;
     uint32_t seat;
     __atomic_store_n(&gate->turn, number, __ATOMIC_RELAXED);
-    seat = claim_or_announce(gate, number);
+    seat = announce_and_claim(gate, number);
     if (seat != 0) {
-        leave_look(node_of(gate, seat));
+        leave_look(gate, seat);
     }
     errno = saved_errno;
 }
@@ -747,57 +765,10 @@ static uint64_t end_of_serving(const struct call *call) {
     return end < call->until ? end : call->until;
 }
 
-/* The node of the thread that was notified last that its call was served, and those of threads that may sleep, to be woken later. */
-struct notified {
-    struct wait_node *last;
-    struct wait_node *sleepers[HULL_SHARED_SEATS_MAX];
-    uint32_t count;
-};
-
-static void wake_sleepers_of(struct notified *notified) {
-    while (notified->count > 0) {
-        wake_posted(notified->sleepers[--notified->count]);
-    }
-}
-
-/* Looks whether the thread that was notified last may sleep. (One that woke by itself may sleep again, and be among the sleepers twice.) */
-static void note_sleeper(struct notified *notified) {
-    struct wait_node *node = notified->last;
-    notified->last = NULL;
-    if (node != NULL && may_sleep(node)) {
-        if (notified->count == HULL_SHARED_SEATS_MAX) {
-            wake_sleepers_of(notified);
-        }
-        notified->sleepers[notified->count++] = node;
-    }
-}
-
-/* Wakes all threads that were notified and may sleep. */
-static void wake_notified(struct notified *notified) {
-    note_sleeper(notified);
-    wake_sleepers_of(notified);
-}
-
-/* Notifies the thread of a posted seat that its call was served. Whether it sleeps is looked up one call later, when the store of its notice has
- * reached the other processor: so no step waits for that. */
-static void notify_served(struct notified *notified, struct wait_node *node) {
-    note_sleeper(notified);
+/* Notifies the thread of a posted seat that its call was served. */
+static void notify_served(struct wait_node *node) {
     __atomic_store_n(&node->has_turn, HAD_TURN, __ATOMIC_RELAXED);
     notify(node, IS_SERVED);
-    notified->last = node;
-}
-
-/* Wakes those whose calls a thread served, and looks for the seat that is posted with a number a few times more: they make their next calls now.
- * Returns the seat; or 0, and the number is announced. */
-static uint32_t wait_and_claim(struct gate *gate, uint64_t number, struct notified *notified) {
-    uint32_t seat = 0;
-    unsigned looks;
-    wake_notified(notified);
-    for (looks = 0; seat == 0 && looks < POST_LOOKS; looks++) {
-        hull_pause(0);
-        seat = claim(gate, number);
-    }
-    return seat != 0 ? seat : announce_and_claim(gate, number);
 }
 
 /* Serves the claimed seats from this number on, which was handed on, for their threads, and wakes those that sleep. It ends at a number that
@@ -805,29 +776,32 @@ static uint32_t wait_and_claim(struct gate *gate, uint64_t number, struct notifi
  * thread has to drain, which at first `held` lines say: then the thread of the next seat is to look. */
 OUT_OF_LINE void serve_claimed(const struct call *call, uint32_t seat, uint64_t number, uint32_t held) {
     struct gate *gate = call->gate;
-    struct notified notified;
+    const int saved_errno = errno;
     uint32_t served = 0, server = call->number;
-    uint64_t end = end_of_serving(call);
-    notified.last = NULL, notified.count = 0;
+    uint64_t end = end_of_serving(call), notified = 0;
     __atomic_store_n(&gate->server, server, __ATOMIC_RELAXED);
     while (seat != 0) {
         struct wait_node *node = node_of(gate, seat);
-        read_ahead(gate, number + 1);
+        fetch_ahead(gate, number + 1);
         if (served == HULL_SHARED_SERVES || hull_now() >= end || is_drain_due(call, held) || !serve(gate, node)) {
-            leave_look(node);
+            leave_look(gate, seat);
             break;
         }
         served++;
         held = binding_of(node->seat)->reply.held;
+        notify_served(node);
+        notified |= bit_of(seat);
         seat = claim(gate, ++number);
-        notify_served(&notified, node);
         if (seat == 0) {
-            seat = wait_and_claim(gate, number, &notified);
+            wake_notified(gate, notified);
+            notified = 0;
+            seat = announce_and_claim(gate, number);
         }
     }
     __atomic_compare_exchange_n(&gate->server, &server, 0, 0, __ATOMIC_RELAXED, __ATOMIC_RELAXED);
     __atomic_fetch_add(&gate->combined, served, __ATOMIC_RELAXED);
-    wake_notified(&notified);
+    wake_notified(gate, notified);
+    errno = saved_errno;
 }
 
 /* Serves the calls that are posted from this number on, which was handed on; at first the book has `held` lines. */
@@ -843,11 +817,18 @@ static uint64_t post_of(const struct call *call, uint64_t number) {
     return number * ONE_NUMBER + (call->number - 1) * ONE_SEAT + POSTED;
 }
 
+/* Sets what the call of a posted seat writes to. (It is mostly unchanged; then the line of the cache, which the thread that served the seat has
+ * written, is not fetched to be written.) */
+static void set_target(struct binding *binding, const hull_shared_target *to) {
+    if (binding->to.out != to->out || binding->to.capacity != to->capacity || binding->to.segment != to->segment) {
+        binding->to = *to;
+    }
+}
+
 /* Posts the seat of a call at the slot of its number. */
 static void post(const struct call *call, uint64_t number, const hull_shared_target *to) {
-    binding_of(call->seat)->to = *to;
+    set_target(binding_of(call->seat), to);
     __atomic_store_n(&node_of(call->gate, call->number)->notice, WAITS, __ATOMIC_RELAXED);
-    __atomic_store_n(&node_of(call->gate, call->number)->sleeps, 0, __ATOMIC_RELAXED);
     __atomic_store_n(&call->gate->slots[number % HULL_SHARED_SEATS_MAX].seat, call->seat, __ATOMIC_RELAXED);
     hull_mark_before(binding_of(call->seat));
     __atomic_store_n(slot_of(call->gate, number), post_of(call, number), __ATOMIC_SEQ_CST);
@@ -860,32 +841,42 @@ static int take_back(const struct call *call, uint64_t number) {
     return try_change_slot(slot_of(call->gate, number), &word, word - POSTED + CLAIMED);
 }
 
+/* Whether the number of a posted seat is announced; then the post is taken back, unless a thread has claimed it. */
+static int is_taken_back(const struct call *call, uint64_t number) {
+    return __atomic_load_n(&call->gate->announced, __ATOMIC_SEQ_CST) == number && take_back(call, number);
+}
+
+/* Sleeps until the posted seat of a call may have its notice. */
+static void sleep_posted(const struct call *call, uint32_t *notice) {
+    const uint64_t bit = bit_of(call->number);
+    __atomic_fetch_or(&call->gate->sleepers, bit, __ATOMIC_SEQ_CST);
+    HULL_SHARED_STEP("to sleep");
+    while (__atomic_load_n(notice, __ATOMIC_SEQ_CST) == WAITS) {
+        hull_sleep(notice, WAITS, HULL_NEVER);
+    }
+    __atomic_fetch_and(&call->gate->sleepers, ~bit, __ATOMIC_RELAXED);
+}
+
 /* Waits until the posted seat of a call has its notice, and returns it; or until its number is announced and the post is taken back, and
  * returns IS_TO_LOOK. */
 static uint32_t await_notice(const struct call *call, uint64_t number) {
     enum { LONGEST = 2 /* of the pauses */ };
-    struct wait_node *node = node_of(call->gate, call->number);
+    uint32_t *notice = &node_of(call->gate, call->number)->notice, seen;
     unsigned looks = 0;
-    for (;;) {
-        uint32_t seen = __atomic_load_n(&node->notice, __ATOMIC_SEQ_CST);
-        if (seen != WAITS) {
-            return seen;
-        }
-        if (__atomic_load_n(&call->gate->announced, __ATOMIC_SEQ_CST) == number && take_back(call, number)) {
+    while ((seen = __atomic_load_n(notice, __ATOMIC_SEQ_CST)) == WAITS) {
+        if (is_taken_back(call, number)) {
             return IS_TO_LOOK;
         }
         if (looks < POSTED_LOOKS) {
             hull_pause(looks < LONGEST ? looks : LONGEST);
-            looks++;
         } else if (looks < POSTED_LOOKS + POSTED_YIELDS) {
-            looks++;
             sched_yield();
         } else {
-            __atomic_store_n(&node->sleeps, 1, __ATOMIC_SEQ_CST);
-            HULL_SHARED_STEP("to sleep");
-            hull_sleep(&node->notice, WAITS, HULL_NEVER);
+            sleep_posted(call, notice);
         }
+        looks++;
     }
+    return seen;
 }
 
 /* Waits until the number that the seat of a call has taken is served; writes the answer. If it looked itself, it then serves those that are
@@ -1100,11 +1091,13 @@ OUT_OF_LINE hull_shared_reply call_and_wait(struct gate *gate, hull_shared_seat 
 OUT_OF_LINE hull_shared_reply wait_admitted(struct gate *gate, hull_shared_seat *seat, uint32_t kind, int64_t x, int64_t y, uint64_t until,
                                             uint32_t drains, uint64_t turn) {
     const struct call call = {gate, seat, binding_of(seat)->number + 1, kind, x, y, until};
+    const int saved_errno = errno;
     hull_shared_reply reply = refusal(HULL_NOT_YET);
     wait_and_leave(&call, turn, &no_target, &reply);
     if (drain_after(&call, drains, reply.answer.code, reply.held)) {
         make(&call, &no_target, &reply);
     }
+    errno = saved_errno;
     return reply;
 }
 
@@ -1112,7 +1105,10 @@ OUT_OF_LINE hull_shared_reply wait_admitted(struct gate *gate, hull_shared_seat 
 OUT_OF_LINE int drain_after_admitted(struct gate *gate, hull_shared_seat *seat, uint64_t until, uint32_t drains, uint32_t code,
                                       uint32_t held) {
     const struct call call = {gate, seat, binding_of(seat)->number + 1, HULL_KIND_COUNT, 0, 0, until};
-    return drain_after(&call, drains, code, held);
+    const int saved_errno = errno;
+    const int is_again = drain_after(&call, drains, code, held);
+    errno = saved_errno;
+    return is_again;
 }
 
 /* Serves the calls that are posted after one that was admitted at once. */
@@ -1129,7 +1125,6 @@ IN_LINE void serve_after(struct gate *gate, hull_shared_seat *seat, uint64_t unt
  * gate. Then it does no more than is here. */
 IN_LINE hull_shared_reply call_at_once(struct gate *gate, hull_shared_seat *seat, uint32_t kind, int64_t x, int64_t y, uint64_t until) {
     const struct binding *binding = binding_of(seat);
-    const int saved_errno = errno;
     struct wait_node *node;
     hull_shared_reply reply;
     uint64_t turn;
@@ -1157,7 +1152,6 @@ IN_LINE hull_shared_reply call_at_once(struct gate *gate, hull_shared_seat *seat
             reply = call_and_wait(gate, seat, kind, x, y, &no_target, until);
         }
     }
-    errno = saved_errno;
     return reply;
 }
 

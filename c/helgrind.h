@@ -39,6 +39,9 @@ static __attribute__((noinline, unused)) uintptr_t hull_request(uintptr_t number
 static inline int hull_is_under_valgrind(void) {
     static int known; /* 1 if it does not, 2 if it does */
     int seen = __atomic_load_n(&known, __ATOMIC_RELAXED);
+    if (__builtin_expect(seen == 1, 1)) {
+        return 0;
+    }
     if (seen == 0) {
         seen = hull_request(HULL_RUNNING_ON_VALGRIND, 0, 0) != 0 ? 2 : 1;
         __atomic_store_n(&known, seen, __ATOMIC_RELAXED);

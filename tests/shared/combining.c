@@ -107,7 +107,7 @@ static void close_all(void) {
 static void start(unsigned seat, uint64_t number) {
     const uint64_t word = number * ONE_NUMBER + seat * ONE_SEAT + POSTED;
     pthread_create(&threads[seat], NULL, work, (void *)(size_t)seat);
-    while (__atomic_load_n(slot_of(gate, number), __ATOMIC_SEQ_CST) != word || __atomic_load_n(&gate->nodes[seat].sleeps, __ATOMIC_SEQ_CST) == 0) {
+    while (__atomic_load_n(slot_of(gate, number), __ATOMIC_SEQ_CST) != word || (__atomic_load_n(&gate->sleepers, __ATOMIC_SEQ_CST) & bit_of(seat + 1)) == 0) {
         nap(MILLISECOND / 10);
     }
 }

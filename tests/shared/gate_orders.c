@@ -36,8 +36,11 @@ enum { MOST = 8, SLOTS = 48, TIMES = 3 /* that a call may take a number */, STAC
 /* ---- what a state is made of */
 
 struct seat {
-    struct proved_seat proved;
-    _Alignas(64) struct binding binding;
+    _Alignas(LINE) union {
+        struct proved_seat proved;
+        unsigned char lines[PROVED_SEAT];
+    };
+    struct binding binding;
 };
 
 enum { READY, ASLEEP, DONE };

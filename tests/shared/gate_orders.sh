@@ -19,10 +19,10 @@ if [ "$(uname -m)" != x86_64 ]; then
     end
 fi
 
-# compiles the program over the copy of the waiting code: LEVEL
+# compiles the program over the copy of the waiting code: LEVEL. (The loader finds no function on a thread's stack, which is small.)
 build() {
     cc -std=gnu11 "$1" -DGATE="\"$room/gate.c\"" -I"$prefix/include" \
-        -I"$here" "$here/gate_orders.c" -o "$room/gate_orders"
+        -I"$here" "$here/gate_orders.c" -Wl,-z,now -o "$room/gate_orders"
 }
 
 copy() {
@@ -106,28 +106,29 @@ wrong_ones() {
     wrong 'a thread that waits for the lock says so to none' '3 1 1 ccc 0 1 0 0' 's/while \(__atomic_exchange_n\(lock, 2, /while (__atomic_exchange_n(lock, 1, /; s/hull_sleep\(lock, 2,/hull_sleep(lock, 1,/' sleep.h
     # posted seats
     wrong 'a seat that is posted does not look whether its number is announced' '2 1 2 cc' \
-        's/if \(__atomic_load_n\(\&call->gate->announced, __ATOMIC_SEQ_CST\) == number \&\& /if (0 \&\& /'
+        's/return __atomic_load_n\(\&call->gate->announced, __ATOMIC_SEQ_CST\) == number \&\& /return 0 \&\& /'
     wrong 'a number that is handed on is not announced' '2 1 2 cc' 's/^    announce\(gate, number\);/    ;/'
-    wrong 'a thread that announces a number does not look at its slot again' '2 1 2 cc' '/^    announce\(gate, number\);/{N;s/return claim\(gate, number\);/return 0;/}'
+    wrong 'a thread that announces a number does not look at its slot again' '2 1 2 cc' '/^    announce\(gate, number\);/{n;s/^.*$/    return 0;/}'
     wrong 'a number is announced after the last look at its slot' '2 1 2 cc' \
-        '/^    announce\(gate, number\);/{N;s/^.*$/    uint32_t seat = claim(gate, number); announce(gate, number); return seat;/}'
+        '/^    announce\(gate, number\);/{N;s/^(.*)\n(.*)$/\2\n\1/}'
     wrong 'an earlier number is announced over a later one' '3 1 64 ccc 0 1 0 0' 's/return other == 0 \|\| \(int64_t\)\(number - other\) > 0;/return number != other;/'
     wrong 'a post is taken back by a store' '2 1 2 cc' \
         's/return try_change_slot\(slot_of\(call->gate, number\), \&word, word - POSTED \+ CLAIMED\);/__atomic_store_n(slot_of(call->gate, number), word - POSTED + CLAIMED, __ATOMIC_SEQ_CST); return 1;/'
-    wrong 'a seat is claimed by a store' '2 1 2 cc' \
+    wrong 'a seat whose number is announced is claimed by a store' '2 1 2 cc' \
         's/try_change_slot\(slot, \&seen, seen - POSTED \+ CLAIMED\)/(__atomic_store_n(slot, seen - POSTED + CLAIMED, __ATOMIC_SEQ_CST), 1)/'
     wrong 'a seat is posted before its thread may be given a notice' '2 1 2 cc' \
         's/^    __atomic_store_n\(\&node_of\(call->gate, call->number\)->notice, WAITS, __ATOMIC_RELAXED\);/    ;/; s/^    HULL_SHARED_STEP\("posted"\);/    __atomic_store_n(\&node_of(call->gate, call->number)->notice, WAITS, __ATOMIC_SEQ_CST);/'
     wrong 'a thread that serves others or hands on wakes none' '2 1 2 cc' 's/^( +)hull_wake\(\&node->notice, 1\);/\1;/'
-    wrong 'who gives a notice looks before that whether the thread sleeps' '2 1 2 cc' \
-        '/^    HULL_SHARED_STEP\("to notify"\);/{i\    node->padding[0] = __atomic_load_n(\&node->sleeps, __ATOMIC_SEQ_CST) != 0;
-}; s/^    return __atomic_load_n\(\&node->sleeps, __ATOMIC_SEQ_CST\) != 0;/    return node->padding[0];/'
-    wrong 'the thread that is notified last is not woken' '2 1 2 cc' '/^static void wake_notified/{n;s/^.*$/    ;/}'
-    wrong 'a posted thread sleeps before it says so' '2 1 2 cc' 's/^( +)__atomic_store_n\(\&node->sleeps, 1, __ATOMIC_SEQ_CST\);/\1;/'
+    wrong 'who leaves a look wakes before the notice' '8 3 8 cccccccc 0 2 0 1 20000' '/^    notify\(node_of\(gate, seat\), IS_TO_LOOK\);/{N;s/^(.*)\n(.*)$/\2\n\1/}'
+    wrong 'who serves others looks for sleepers before the notice' '2 1 2 cc' \
+        's/^        notify_served\(node\);/        notified |= __atomic_load_n(\&gate->sleepers, __ATOMIC_SEQ_CST) \& bit_of(seat);\n&/; s/^        notified \|= bit_of\(seat\);/        ;/'
+    wrong 'those whose calls were served are not woken before a number is announced' '2 1 2 cc' 's/^            wake_notified\(gate, notified\);/            ;/'
+    wrong 'those whose calls were served are not woken by a thread that serves no more' '8 3 8 cccccccc 0 2 0 1 20000' 's/^    wake_notified\(gate, notified\);/    ;/'
+    wrong 'a posted thread sleeps before it says so' '2 1 2 cc' 's/^    __atomic_fetch_or\(\&call->gate->sleepers, bit, __ATOMIC_SEQ_CST\);/    ;/'
     wrong 'a notice is given before the call is served' '2 1 2 cc' \
         's/^        if \(served == HULL_SHARED_SERVES/        __atomic_store_n(\&node->notice, IS_SERVED, __ATOMIC_SEQ_CST);\n&/'
-    wrong 'a thread that serves no more leaves the next without a notice' '8 3 8 cccccccc 0 2 0 1 20000' 's/^            leave_look\(node\);/            ;/'
-    wrong 'a thread that serves no more says that the next is served' '8 3 8 cccccccc 0 2 0 1 20000' 's/notify\(node, IS_TO_LOOK\)/notify(node, IS_SERVED)/'
+    wrong 'a thread that serves no more leaves the next without a notice' '8 3 8 cccccccc 0 2 0 1 20000' 's/^            leave_look\(gate, seat\);/            ;/'
+    wrong 'a thread that serves no more says that the next is served' '8 3 8 cccccccc 0 2 0 1 20000' 's/, IS_TO_LOOK\);/, IS_SERVED);/'
     wrong 'a call that another thread served keeps the reply before it' '2 2 2 cc' 's/^            \*reply = binding->reply;/            ;/'
     wrong 'a thread whose call was served serves none after it' '2 2 2 cc' 's/^        serve_next\(call, number \+ 1, reply->held\);/        ;/'
     wrong 'a thread whose call was served as it took its number serves none after it' '2 2 2 cc' 's/^            serve_next\(call, reply->turn \+ 1, reply->held\);/            ;/'

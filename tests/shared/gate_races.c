@@ -18,8 +18,11 @@
 enum { MOST = 64 };
 
 static struct seat {
-    struct proved_seat proved;
-    _Alignas(64) struct binding binding;
+    _Alignas(LINE) union {
+        struct proved_seat proved;
+        unsigned char lines[PROVED_SEAT];
+    };
+    struct binding binding;
 } seats[MOST];
 static hull_shared_gate gate;
 static unsigned many, calls;

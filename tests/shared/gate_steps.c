@@ -291,6 +291,13 @@ static void check_lock(void) {
     check("none is woken if none sleeps", woken.count, 2);
 }
 
+/* What the gate keeps of a seat is behind the proved seat. */
+static void check_storage(void) {
+    check("the lines of a proved seat", hull_proved_shared_seat_size() <= PROVED_SEAT, 1);
+    check("no line more", hull_proved_shared_seat_size() > PROVED_SEAT - LINE, 1);
+    check("the storage of a seat", hull_shared_seat_size(), PROVED_SEAT + 2 * LINE);
+}
+
 /* Numbers continue with 0 after 2^64 - 1; of two that are stored by several threads the later one stays. */
 static void check_numbers(void) {
     enter_all(2);
@@ -631,9 +638,8 @@ static uint64_t first_number;
 /* While seat 38 sleeps with its number: it is reported, and its call is made by this thread. */
 static void serve_last(void) {
     struct wait_node *node = node_of(gate, 39);
-    struct notified notified = {NULL, {NULL}, 0};
     hull_shared_reply reply;
-    if (node->sleeps == 0) {
+    if (gate->sleepers != bit_of(39)) {
         return;
     }
     still_now += 1000;
@@ -644,11 +650,23 @@ static void serve_last(void) {
     check("the seat after it", claim(gate, first_number + 1), 39);
     check("is served", (uint64_t)serve(gate, node), 1);
     check("the number that is served", gate->turn, first_number + 2);
-    notify_served(&notified, node);
+    notify_served(node);
     check("it had its turn", node->has_turn, HAD_TURN);
     check("its notice", node->notice, IS_SERVED);
-    note_sleeper(&notified);
-    check("its thread sleeps", notified.count, 1);
+}
+
+/* Of seats that were notified those are woken whose threads sleep, but not one that is posted again. */
+static void check_waking(void) {
+    open_all(100, SEATS);
+    gate->sleepers = bit_of(3) | bit_of(5) | bit_of(SEATS);
+    gate->nodes[1].notice = gate->nodes[2].notice = gate->nodes[SEATS - 1].notice = IS_SERVED;
+    woken.count = 0;
+    wake_notified(gate, bit_of(2) | bit_of(3) | bit_of(5));
+    check("one that sleeps", woken.count == 1 && woken.word == &gate->nodes[2].notice && woken.many == 1, 1);
+    wake_notified(gate, bit_of(SEATS));
+    check("the last", woken.count == 2 && woken.word == &gate->nodes[SEATS - 1].notice, 1);
+    gate->sleepers = 0;
+    close_all();
 }
 
 /* A thread serves two seats that are posted, of which one looks and one sleeps: both are counted, and only the sleeper is woken. */
@@ -664,7 +682,7 @@ static void check_serving(void) {
             post(&calls[k], first + k, &nowhere);
         }
     }
-    gate->nodes[2].sleeps = 1;
+    gate->sleepers = bit_of(3);
     woken.count = 0;
     check("a look", hull_shared_look(seats[0]).answer.code, HULL_NUMBER);
     serve_next(&calls[0], first + 1, 1);
@@ -679,7 +697,7 @@ static void check_serving(void) {
 
 /* While seat 6 sleeps with its number: its time is counted from the first time that it is asked for. */
 static void ask_for_times(void) {
-    if (gate->nodes[6].sleeps == 0) {
+    if (gate->sleepers == 0) {
         return;
     }
     gate->nodes[2].since = UNTIMED, gate->nodes[2].has_turn = HAS_TURN, gate->nodes[2].turn = first_number + 2;
@@ -776,6 +794,7 @@ int main(void) {
     check_leaving_beside_another();
     check_deadlines();
     check_lock();
+    check_storage();
     check_numbers();
     check_sleep_for_space();
     check_holders();
@@ -787,6 +806,7 @@ int main(void) {
     check_refused();
     check_open_to_all();
     check_time_of_serving();
+    check_waking();
     check_serving();
     check_first_stats();
     check_served();
