@@ -8,7 +8,7 @@ use Rattle.ticket_lock.specs.Tokens.{Finds, ticket_number, ticket_seen}
 use Rattle.hull_shared.specs.Locks.{SharedHullBoxed, HullLock, boxed_head, head_of, lines_at, says_shared_hull, seats_of, whole_of}
 use Rattle.hull_shared.specs.Looks.{HasFound}
 use Rattle.hull_shared.specs.declared.book.SharedHullHead.{SharedHullHead}
-use Rattle.hull_shared.specs.declared.standing.TakenNumber.{TakenNumber}
+use Rattle.hull_shared.specs.declared.seat_state.TakenNumber.{TakenNumber}
 
 module _ (t : TakenNumber) (lock : HullLock) (number n u : ℕ) (book : SharedHullBoxed)
     (finds : Finds says_shared_hull (head_of lock) n (ticket_seen t.ticket) u book) (numbered : n ≡ number) where

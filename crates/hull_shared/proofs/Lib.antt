@@ -13,5 +13,5 @@ pub mod Found
 mod SnapshotReplies
 pub mod SnapshotSlots
 pub mod Seen
-pub mod Standings
+pub mod SeatStates
 pub mod Takes

@@ -14,18 +14,18 @@ use Rattle.hull_shared.specs.declared.shared_hull.SharedHull.{SharedHull}
 use Rattle.hull_shared.specs.declared.seat.AcquiredSeat.{AcquiredSeat}
 use Rattle.hull_shared.specs.declared.seat.SharedSeat.{SharedSeat}
 use Rattle.hull_shared.specs.declared.seat.SharedSeat.TheVariants.{Acquired}
-use Rattle.hull_shared.specs.declared.standing.TakenNumber.{TakenNumber}
+use Rattle.hull_shared.specs.declared.seat_state.TakenNumber.{TakenNumber}
 
-module _ (a b : AcquiredSeat) (t : TakenNumber) (is : a.standing.taken ≡ Some t) (same : IsSameSeat a b) where
+module _ (a b : AcquiredSeat) (t : TakenNumber) (is : a.state.taken ≡ Some t) (same : IsSameSeat a b) where
   -- what a waiting seat saw is what it saw as an acquired seat
-  pub seen_by : (s : Seen) → HasSeenAt (lock_of a.lock) a.number a.standing.ledger t b.standing s
-      → HasSeenBy a.standing.taken a (Acquired b) s
+  pub seen_by : (s : Seen) → HasSeenAt (lock_of a.lock) a.number a.state.ledger t b.state s
+      → HasSeenBy a.state.taken a (Acquired b) s
   seen_by s seen = subst (λ (o : Option TakenNumber). HasSeenBy o a (Acquired b) s) (sym is) (b, refl, same, seen)
 
   -- and so it is with a segment that has enough storage
   pub seen_with : (p : ReadySegment) (segment : Segment) (s : Seen) → a.capacity ≤ p.lines
-      → HasLookedWith (lock_of a.lock) a.number a.standing.ledger t b.standing p segment s
-      → HasSeenWithBy a.standing.taken a (Acquired b) (Ready p) segment s
+      → HasLookedWith (lock_of a.lock) a.number a.state.ledger t b.state p segment s
+      → HasSeenWithBy a.state.taken a (Acquired b) (Ready p) segment s
   seen_with p segment s fits seen =
       subst (λ (o : Option TakenNumber). HasSeenWithBy o a (Acquired b) (Ready p) segment s) (sym is) (inl (fits, (b, refl, same, seen)))
 

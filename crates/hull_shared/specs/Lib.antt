@@ -7,7 +7,7 @@ pub mod Locks
 pub mod Places
 pub mod Limits
 pub mod Asked
-pub mod Standings
+pub mod SeatStates
 pub mod Looks
 pub mod SharedHulls
 pub mod Readings

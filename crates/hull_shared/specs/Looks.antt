@@ -20,7 +20,9 @@ use Rattle.hull_shared.specs.declared.answer.StateAfter.{StateAfter}
 use Rattle.hull_shared.specs.declared.answer.SharedHullAnswer.{SharedHullAnswer}
 use Rattle.hull_shared.specs.declared.answer.SharedHullAnswer.TheVariants.{Written, Unwritten, Full}
 use Rattle.hull_shared.specs.Locks.{HullLock, head_of, lock_of}
-use Rattle.hull_shared.specs.Standings.{SeatValue}
+use Rattle.hull_shared.specs.SeatStates.{SeatValue}
+use Rattle.hull_shared.specs.declared.looking.AfterTake.{AfterTake}
+use Rattle.hull_shared.specs.declared.looking.AfterTake.TheVariants.{Wait, Look}
 use Rattle.hull_shared.specs.declared.looking.Looked.{Looked}
 use Rattle.hull_shared.specs.declared.looking.Looked.TheVariants as looked
 use Rattle.hull_shared.specs.declared.looking.SeatReply.{SeatReply}
@@ -29,8 +31,8 @@ use Rattle.hull_shared.specs.declared.looking.Seen.TheVariants.{Unserved, Served
 use Rattle.hull_shared.specs.declared.seat.AcquiredSeat.{AcquiredSeat}
 use Rattle.hull_shared.specs.declared.seat.SharedSeat.{SharedSeat}
 use Rattle.hull_shared.specs.declared.seat.SharedSeat.TheVariants.{Vacant, Acquired}
-use Rattle.hull_shared.specs.declared.standing.Standing.{Standing}
-use Rattle.hull_shared.specs.declared.standing.TakenNumber.{TakenNumber}
+use Rattle.hull_shared.specs.declared.seat_state.SeatState.{SeatState}
+use Rattle.hull_shared.specs.declared.seat_state.TakenNumber.{TakenNumber}
 
 -- the seat with this number has taken a ticket of the lock for the call, and has seen the same lines
 abbrev pub WaitsFor : HullLock → ℕ → SeatValue → TakenNumber → Call → Type 0
@@ -57,7 +59,7 @@ IsReplyOf c t r = IsBare c r.encoded × (r.turn ≡ ticket_number t.ticket) × E
 -- there is a seat, and it has no number
 abbrev pub IsIdle : SharedSeat → Type 0
 IsIdle Vacant = ⊥
-IsIdle (Acquired a) = IsNone a.standing.taken
+IsIdle (Acquired a) = IsNone a.state.taken
 
 -- the number that was taken, or 0 if none was
 abbrev pub turn_taken : Option TakenNumber → ℕ
@@ -67,7 +69,7 @@ turn_taken (Some t) = ticket_number t.ticket
 -- the number that the seat has, or 0 if it has none
 abbrev pub turn_of : SharedSeat → ℕ
 turn_of Vacant = 0
-turn_of (Acquired a) = turn_taken a.standing.taken
+turn_of (Acquired a) = turn_taken a.state.taken
 
 -- the reply of a seat that takes no number: this code, the number that it has already, and nothing else
 abbrev pub IsRefusal : Code → SharedSeat → SeatReply → Type 0
@@ -82,7 +84,7 @@ IsWhyNotTaken (Ok call) None c = ⊥
 -- why a seat takes no number: there is none, it has a number already, or it is asked for no call
 abbrev pub IsWhyRefused : Result Call Code → SharedSeat → Code → Type 0
 IsWhyRefused asked Vacant c = c ≡ code.Vacant
-IsWhyRefused asked (Acquired a) c = IsWhyNotTaken asked a.standing.taken c
+IsWhyRefused asked (Acquired a) c = IsWhyNotTaken asked a.state.taken c
 
 -- the call that these numbers request of a seat with no number, or why the seat takes none
 abbrev pub CanTake : ℕ → ℤ → ℤ → SharedSeat → Result Call Code → Type 0
@@ -102,7 +104,7 @@ AcceptsBy does asked taken a new r = IsRefused asked (Acquired a) new r
 -- a seat with no number that is asked for a call does this; any other is unchanged, and the reply says why
 abbrev pub Accepts : (AcquiredSeat → Call → SharedSeat → SeatReply → Type 0) → Result Call Code → SharedSeat → SharedSeat → SeatReply → Type 0
 Accepts does asked Vacant new r = IsRefused asked Vacant new r
-Accepts does asked (Acquired a) new r = AcceptsBy does asked a.standing.taken a new r
+Accepts does asked (Acquired a) new r = AcceptsBy does asked a.state.taken a new r
 
 -- so does a seat with no number, if these numbers request a call; any other is unchanged, and the reply says why
 abbrev pub AcceptsRequest : (AcquiredSeat → Call → SharedSeat → SeatReply → Type 0) → ℕ → ℤ → ℤ → SharedSeat → SharedSeat → SeatReply → Type 0
@@ -113,31 +115,12 @@ abbrev pub IsSameSeat : AcquiredSeat → AcquiredSeat → Type 0
 IsSameSeat a b = (b.lock ≡ a.lock) × (b.number ≡ a.number) × (b.capacity ≡ a.capacity)
 
 -- the seat that has no number is this one
-abbrev pub HasSeat : Standing → SeatValue → Type 0
-HasSeat standing seat = (standing.seat ≡ Some seat) × (standing.taken ≡ None)
+abbrev pub HasSeat : SeatState → SeatValue → Type 0
+HasSeat state seat = (state.seat ≡ Some seat) × (state.taken ≡ None)
 
 -- the seat has this number
-abbrev pub HasNumber : Standing → TakenNumber → Type 0
-HasNumber standing t = (standing.taken ≡ Some t) × (standing.seat ≡ None)
-
--- the seat takes a number for the call
-pub record Takes (a : AcquiredSeat) (call : Call) (b : AcquiredSeat) (r : SeatReply) : Type 0 where
-  pub same : IsSameSeat a b
-  pub seat : SeatValue
-  pub was_idle : HasSeat a.standing seat
-  pub taken : TakenNumber
-  pub waits : HasNumber b.standing taken
-  pub waits_for : WaitsFor (lock_of a.lock) a.number seat taken call
-  pub same_ledger : b.standing.ledger ≡ a.standing.ledger
-  pub encoded : IsReplyOf code.Taken taken r
-
--- so does an acquired seat
-abbrev pub TakesNumber : AcquiredSeat → Call → SharedSeat → SeatReply → Type 0
-TakesNumber a call new r = (b : AcquiredSeat) × (new ≡ Acquired b) × Takes a call b r
-
--- a take, for the requested call
-abbrev pub HasTaken : ℕ → ℤ → ℤ → SharedSeat → SharedSeat → SeatReply → Type 0
-HasTaken = AcceptsRequest TakesNumber
+abbrev pub HasNumber : SeatState → TakenNumber → Type 0
+HasNumber state t = (state.taken ≡ Some t) × (state.seat ≡ None)
 
 -- it is the same number for the same call, whose seat has seen the same lines, and looked once more
 abbrev pub IsLookedWith : TakenNumber → TakenNumber → Type 0
@@ -145,7 +128,7 @@ IsLookedWith t u = (u.call ≡ t.call) × (ticket_number u.ticket ≡ ticket_num
     × (ticket_seen u.ticket ≡ ticket_seen t.ticket) × (ticket_looks u.ticket ≡ ticket_looks t.ticket + 1)
 
 -- the seat looked once with this ledger and number, and still waits
-abbrev pub WaitsOn : LedgerValue → TakenNumber → Standing → Type 0
+abbrev pub WaitsOn : LedgerValue → TakenNumber → SeatState → Type 0
 WaitsOn ledger t after = (u : TakenNumber) × HasNumber after u × IsLookedWith t u × (after.ledger ≡ ledger)
 
 -- The call was served of the seat with this number: it found a whole journal that begins with what the seat had seen
@@ -158,13 +141,13 @@ pub record HasFound (number : ℕ) (t : TakenNumber) (so : List MarkedLine → T
 
 -- The call was served with this answer and this state after it, by the number that the seat had taken, and handed on
 -- the journal that the seat has seen now. The seat has no number.
-abbrev pub WasServed : {A : Type 0} → Serves A → HullLock → ℕ → TakenNumber → Standing → A → StateAfter → Type 0
+abbrev pub WasServed : {A : Type 0} → Serves A → HullLock → ℕ → TakenNumber → SeatState → A → StateAfter → Type 0
 WasServed served lock number t after answer state_after = (seat : SeatValue) × HasSeat after seat
     × HasFound number t (λ found. served (head_of lock) (ticket_number t.ticket) number t.call found (seat_seen seat) answer
     state_after)
 
 -- the seat still waits, and the service was not used; or the service served its call
-abbrev pub HasLooked : {S A : Type 0} → (S → Serves A) → HullLock → ℕ → LedgerValue → TakenNumber → Standing → S → Looked S A → Type 0
+abbrev pub HasLooked : {S A : Type 0} → (S → Serves A) → HullLock → ℕ → LedgerValue → TakenNumber → SeatState → S → Looked S A → Type 0
 HasLooked served lock number ledger t after service (looked.NotYet left) = WaitsOn ledger t after × (left ≡ service)
 HasLooked served lock number ledger t after service (looked.Served answer state_after) =
     WasServed (served service) lock number t after answer state_after
@@ -193,7 +176,7 @@ IsSeenCounted (Unserved reply) = Unit {0}
 IsSeenCounted (Served answer turn state_after) = IsCounted answer
 
 -- what a waiting seat saw: it still waits; or its call was served, under its number
-abbrev pub HasSeenAt : HullLock → ℕ → LedgerValue → TakenNumber → Standing → Seen → Type 0
+abbrev pub HasSeenAt : HullLock → ℕ → LedgerValue → TakenNumber → SeatState → Seen → Type 0
 HasSeenAt lock number ledger t after (Unserved r) = WaitsOn ledger t after × IsReplyOf code.NotYet t r
 HasSeenAt lock number ledger t after (Served answer turn state_after) =
     WasServed HasServedAt lock number t after answer state_after × (turn ≡ ticket_number t.ticket)
@@ -202,12 +185,12 @@ HasSeenAt lock number ledger t after (Served answer turn state_after) =
 abbrev pub HasSeenBy : Option TakenNumber → AcquiredSeat → SharedSeat → Seen → Type 0
 HasSeenBy None a new s = (new ≡ Acquired a) × ((r : SeatReply) × (s ≡ Unserved r) × IsBareReply code.NoNumber r)
 HasSeenBy (Some t) a new s = (b : AcquiredSeat) × (new ≡ Acquired b) × IsSameSeat a b
-    × HasSeenAt (lock_of a.lock) a.number a.standing.ledger t b.standing s
+    × HasSeenAt (lock_of a.lock) a.number a.state.ledger t b.state s
 
 -- a look: a seat with no number is unchanged; one with a number still waits, or its call was served, under its number
 abbrev pub HasSeen : SharedSeat → SharedSeat → Seen → Type 0
 HasSeen Vacant new s = (new ≡ Vacant) × ((r : SeatReply) × (s ≡ Unserved r) × IsBareReply code.Vacant r)
-HasSeen (Acquired a) new s = HasSeenBy a.standing.taken a new s
+HasSeen (Acquired a) new s = HasSeenBy a.state.taken a new s
 
 -- the reply has what follows a call
 abbrev pub EncodesStateAfter : StateAfter → SeatReply → Type 0
@@ -228,24 +211,46 @@ PutsSeen before after (Served answer turn state_after) r =
 abbrev pub HasReplied : SharedSeat → SharedSeat → SeatReply → Type 0
 HasReplied old new r = (seen : Seen) × HasSeen old new seen × EncodesSeen seen r
 
--- the seat takes a number for the call, and looks, which the reply says
-pub record TakesAndSees (a : AcquiredSeat) (call : Call) (b : AcquiredSeat) (r : SeatReply) : Type 0 where
-  pub same : IsSameSeat a b
+-- the seat, which had no number, takes this one for the call
+pub record TakesFor (a : AcquiredSeat) (call : Call) (taken : TakenNumber) : Type 0 where
   pub seat : SeatValue
-  pub was_idle : HasSeat a.standing seat
-  pub taken : TakenNumber
+  pub was_idle : HasSeat a.state seat
   pub waits_for : WaitsFor (lock_of a.lock) a.number seat taken call
+
+-- the seat takes a number for the call, and waits with it, which the reply says
+pub record TakesAndWaits (a : AcquiredSeat) (call : Call) (b : AcquiredSeat) (r : SeatReply) : Type 0 where
+  pub same : IsSameSeat a b
+  pub taken : TakenNumber
+  pub takes : TakesFor a call taken
+  pub waits : HasNumber b.state taken
+  pub same_ledger : b.state.ledger ≡ a.state.ledger
+  pub encoded : IsReplyOf code.Taken taken r
+
+-- the seat takes a number for the call, and looks, which the reply says
+pub record TakesAndLooks (a : AcquiredSeat) (call : Call) (b : AcquiredSeat) (r : SeatReply) : Type 0 where
+  pub same : IsSameSeat a b
+  pub taken : TakenNumber
+  pub takes : TakesFor a call taken
   pub seen : Seen
-  pub has_seen : HasSeenAt (lock_of a.lock) a.number a.standing.ledger taken b.standing seen
+  pub has_seen : HasSeenAt (lock_of a.lock) a.number a.state.ledger taken b.state seen
   pub encoded : EncodesSeen seen r
 
+-- the seat takes a number for the call, and then waits with it or looks
+abbrev pub TakesThen : AfterTake → AcquiredSeat → Call → AcquiredSeat → SeatReply → Type 0
+TakesThen Wait a call b r = TakesAndWaits a call b r
+TakesThen Look a call b r = TakesAndLooks a call b r
+
 -- so does an acquired seat
-abbrev pub TakesAndLooks : AcquiredSeat → Call → SharedSeat → SeatReply → Type 0
-TakesAndLooks a call new r = (b : AcquiredSeat) × (new ≡ Acquired b) × TakesAndSees a call b r
+abbrev pub TakesAsSeat : AfterTake → AcquiredSeat → Call → SharedSeat → SeatReply → Type 0
+TakesAsSeat then a call new r = (b : AcquiredSeat) × (new ≡ Acquired b) × TakesThen then a call b r
+
+-- a take, for the requested call
+abbrev pub HasTaken : ℕ → ℤ → ℤ → SharedSeat → SharedSeat → SeatReply → Type 0
+HasTaken = AcceptsRequest (TakesAsSeat Wait)
 
 -- a take and a look, for the requested call
 abbrev pub HasTakenAndLooked : ℕ → ℤ → ℤ → SharedSeat → SharedSeat → SeatReply → Type 0
-HasTakenAndLooked = AcceptsRequest TakesAndLooks
+HasTakenAndLooked = AcceptsRequest (TakesAsSeat Look)
 
 -- a look, whose answer is in the reply, with vertices written to the array
 abbrev pub HasRepliedInto : SharedSeat → SharedSeat → List Pair → List Pair → SeatReply → Type 0

@@ -22,7 +22,7 @@ use Rattle.hull_shared.specs.SharedHullBooks.{SharedHullValue, HoldsNone}
 use Rattle.hull_shared.specs.Gates.{AreReadersOut, LetsSoMany, snapshot_slots_after}
 use Rattle.hull_shared.specs.Limits.{AreLimits}
 use Rattle.hull_shared.specs.Looks.{HasSeat}
-use Rattle.hull_shared.specs.Standings.{SeatValue}
+use Rattle.hull_shared.specs.SeatStates.{SeatValue}
 use Rattle.hull_shared.specs.Locks.{book_of, head_of, lock_of}
 use Rattle.hull_shared.specs.Places.{HasAt, HasOwnLines}
 use Rattle.hull_shared.specs.declared.shared_hull.ClosedSharedHull.{ClosedSharedHull}
@@ -35,7 +35,7 @@ use Rattle.hull_shared.specs.declared.place.SeatPlace.{SeatPlace}
 use Rattle.hull_shared.specs.declared.seat.AcquiredSeat.{AcquiredSeat}
 use Rattle.hull_shared.specs.declared.seat.SharedSeat.{SharedSeat}
 use Rattle.hull_shared.specs.declared.seat.SharedSeat.TheVariants as seat
-use Rattle.hull_shared.specs.declared.standing.TakenNumber.{TakenNumber}
+use Rattle.hull_shared.specs.declared.seat_state.TakenNumber.{TakenNumber}
 
 -- the shared hull was not opened, and will be opened for no reader
 abbrev pub IsFreshForNone : SharedHull → Type 0
@@ -107,8 +107,8 @@ pub record HasGone (number : ℕ) (d e : OpenSharedHull) (i : AcquiredSeat) : Ty
   pub out : e.places.list.items ≡ slice_set d.places.list.items j None
   pub own_lock : lock_of i.lock ≡ lock_of d.lock
   pub number_is : i.number ≡ number
-  pub seat_is : HasSeat i.standing place.seat
-  pub ledger_is : i.standing.ledger ≡ place.ledger
+  pub seat_is : HasSeat i.state place.seat
+  pub ledger_is : i.state.ledger ≡ place.ledger
 
 -- no seat of this number is there
 abbrev pub IsAway : ℕ → OpenSharedHull → Type 0
@@ -139,7 +139,7 @@ IsIdleSeatOf d (Some t) i = Unit {0}
 
 -- so is the seat in the storage, if there is one
 abbrev pub IsSeatOfSharedHull : SharedHull → SharedSeat → Type 0
-IsSeatOfSharedHull (Open d) (seat.Acquired i) = IsIdleSeatOf d i.standing.taken i
+IsSeatOfSharedHull (Open d) (seat.Acquired i) = IsIdleSeatOf d i.state.taken i
 IsSeatOfSharedHull _ _ = Unit {0}
 
 -- the seat came back to its slot, which was empty
@@ -149,8 +149,8 @@ pub record HasCome (d e : OpenSharedHull) (i : AcquiredSeat) : Type 0 where
   pub home : i.number + j + 1 ≡ d.seats
   pub was_out : slice_get d.places.list.items j ≡ Some None
   pub seat : SeatValue
-  pub was_idle : HasSeat i.standing seat
-  pub back : e.places.list.items ≡ slice_set d.places.list.items j (Some (record { seat = seat; ledger = i.standing.ledger }))
+  pub was_idle : HasSeat i.state seat
+  pub back : e.places.list.items ≡ slice_set d.places.list.items j (Some (record { seat = seat; ledger = i.state.ledger }))
 
 -- a seat of this number is there
 abbrev pub IsAtSharedHull : ℕ → OpenSharedHull → Type 0
@@ -175,7 +175,7 @@ HasReturnedBy (Some t) d new i storage encoded =
 
 -- a seat is released: to an open shared hull, and only if it has no number; else nothing changed
 abbrev pub HasReturned : SharedHull → SharedHull → SharedSeat → SharedSeat → ℕ → Type 0
-HasReturned (Open d) new (seat.Acquired i) storage encoded = HasReturnedBy i.standing.taken d new i storage encoded
+HasReturned (Open d) new (seat.Acquired i) storage encoded = HasReturnedBy i.state.taken d new i storage encoded
 HasReturned (Open d) new seat.Vacant storage encoded =
     (new ≡ Open d) × (storage ≡ seat.Vacant) × (encoded ≡ code_number code.Vacant)
 HasReturned old new was storage encoded = (new ≡ old) × (storage ≡ was) × (encoded ≡ code_number code.NotOpen)

@@ -5,8 +5,8 @@ ghost use Rattle.hull_shared.specs.Locks.{lock_of};
 
 use crate::place::{SeatPlace, SeatPlaces};
 use crate::seat::{AcquiredSeat, SharedSeat};
+use crate::seat_state::SeatState;
 use crate::shared_hull::{OpenSharedHull, SharedHull};
-use crate::standing::Standing;
 use core::mem::{replace, replace_with};
 use hull_reply::Code;
 use std::sync::Arc;
@@ -43,7 +43,7 @@ fn acquire_from(
         lock,
         number,
         capacity: shared_hull.capacity,
-        standing: Standing {
+        state: SeatState {
             ledger,
             seat: Some(seat),
             taken: None,
@@ -58,7 +58,7 @@ fn return_to(
     acquired: AcquiredSeat,
 ) -> (OpenSharedHull, Option<AcquiredSeat>)
     requires own { lock_of acquired.lock ≡ lock_of shared_hull.lock }
-    requires idle { IsNone acquired.standing.taken }
+    requires idle { IsNone acquired.state.taken }
     ensures { TakesBack shared_hull acquired result.0 result.1 }
 {
     let Some(j) = place_of(acquired.number, shared_hull.seats) else {
@@ -71,14 +71,14 @@ fn return_to(
         lock,
         number: _,
         capacity: _,
-        standing,
+        state,
     } = acquired;
     drop(lock);
-    let Standing {
+    let SeatState {
         ledger,
         seat,
         taken,
-    } = standing;
+    } = state;
     let None = taken else { unreachable!() };
     let place = SeatPlace {
         seat: seat.unwrap(),
@@ -140,7 +140,7 @@ fn after_return(shared_hull: SharedHull, storage: SharedSeat) -> (SharedHull, (S
                 (SharedSeat::Vacant, Code::Vacant.number()),
             ),
             SharedSeat::Acquired(acquired) => {
-                if acquired.standing.taken.is_some() {
+                if acquired.state.taken.is_some() {
                     return (
                         SharedHull::Open(open),
                         (SharedSeat::Acquired(acquired), Code::Waiting.number()),

@@ -42,6 +42,7 @@ mod reader;
 mod reading;
 mod reopening;
 mod seat;
+mod seat_state;
 mod segment;
 mod segments;
 mod service;
@@ -49,7 +50,6 @@ mod serving;
 mod setting_readers;
 mod setting_up;
 mod shared_hull;
-mod standing;
 mod stored_file;
 mod threads;
 

@@ -11,13 +11,13 @@ use Rattle.hull_shared.specs.Locks.{HullLock, boxed_head, capacity_of, lock_of, 
 use Rattle.hull_shared.specs.Places.{HasAt, IsAtHome}
 use Rattle.std.specs.Prelude.{None}
 use Rattle.hull_shared.proofs.Homes.{home_without}
-use Rattle.hull_shared.proofs.Standings.{stands_idle}
+use Rattle.hull_shared.proofs.SeatStates.{idle_state}
 use Rattle.hull_shared.proofs.acquiring.acquire_from.Goals as goal
 
 pub invariant_of-acquired : goal.invariant_of-acquired
 invariant_of-acquired c =
     let d = c.args.shared_hull in let j = c.in-Some.j in let p = c.unwrap-seat.result in
-    let stands : slice_get d.places.list.items j ≡ Some c.index_mut.result.now =
+    let at_home : slice_get d.places.list.items j ≡ Some c.index_mut.result.now =
     slice_get_read d.places.list.items (length d.places.list.items) j c.index_mut.result.now refl
     (omega (arith, d.laid_out.each, d.places.list.ok.0, c.in-Some.ensures)) c.index_mut.ensures.value in
     let was : HasAt d.places.list.items j p = cc in
@@ -26,7 +26,7 @@ invariant_of-acquired c =
     ap (λ (m : ManuallyDrop HullLock). manually_drop_value m) c.in-Ok.ensures in
     let number : seat_number p.seat ≡ c.args.number = omega (arith, is.home, c.in-Some.ensures) in
     record {
-      stands = stands_idle (lock_of c.in-Ok.lock) c.args.number (record { ledger = p.ledger; seat = Some p.seat; taken = None }) p.seat
+      is_state = idle_state (lock_of c.in-Ok.lock) c.args.number (record { ledger = p.ledger; seat = Some p.seat; taken = None }) p.seat
           (refl, refl) (record {
             own = subst (λ (l : HullLock). IsSeatOf boxed_head l p.seat) (sym same) is.own;
             numbered = number;

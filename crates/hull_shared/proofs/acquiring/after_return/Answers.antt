@@ -8,7 +8,7 @@ use Rattle.hull_shared.proofs.Seen.{returned}
 use Rattle.hull_shared.proofs.acquiring.after_return.Goals as goal
 
 pub returns-in-None : goal.returns-in-None
-returns-in-None c = rw (c.in-Open.is, c.in-Acquired.is) (returned c.in-Acquired.acquired.standing.taken _ _ _ _ _ (search rules) (
+returns-in-None c = rw (c.in-Open.is, c.in-Acquired.is) (returned c.in-Acquired.acquired.state.taken _ _ _ _ _ (search rules) (
   c.return_to-open.result.0,
   c.return_to-open.result.1,
   c.return_to-open.ensures,
@@ -18,7 +18,7 @@ returns-in-None c = rw (c.in-Open.is, c.in-Acquired.is) (returned c.in-Acquired.
 ))
 
 pub returns-in-Some : goal.returns-in-Some
-returns-in-Some c = rw (c.in-Open.is, c.in-Acquired.is) (returned c.in-Acquired.acquired.standing.taken _ _ _ _ _ (search rules) (
+returns-in-Some c = rw (c.in-Open.is, c.in-Acquired.is) (returned c.in-Acquired.acquired.state.taken _ _ _ _ _ (search rules) (
   c.return_to-open.result.0,
   c.return_to-open.result.1,
   c.return_to-open.ensures,

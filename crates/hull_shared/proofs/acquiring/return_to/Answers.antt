@@ -8,19 +8,19 @@ use Rattle.ticket_lock.specs.Tokens.{IsSeatOf, seat_seen}
 use Rattle.hull_shared.specs.Locks.{HullLock, boxed_head, lock_of}
 use Rattle.hull_shared.specs.Places.{IsAtHome}
 use Rattle.hull_shared.proofs.Homes.{home_with}
-use Rattle.hull_shared.proofs.Standings.{has_seat}
+use Rattle.hull_shared.proofs.SeatStates.{has_seat}
 use Rattle.hull_shared.proofs.acquiring.return_to.Goals as goal
 
 pub unwrap-requires : goal.unwrap-requires
-unwrap-requires c = let i = c.args.acquired in has_seat _ _ i.standing i.stands c.requires.idle
+unwrap-requires c = let i = c.args.acquired in has_seat _ _ i.state i.is_state c.requires.idle
 
 pub invariant_of-shared_hull : goal.invariant_of-shared_hull
 invariant_of-shared_hull c =
     let d = c.args.shared_hull in let i = c.args.acquired in let s = c.unwrap.result in
-    let ours = i.stands.idle s c.unwrap.ensures in
-    let is : IsAtHome (lock_of d.lock) d.seats c.in-Some.j (record { seat = s; ledger = i.standing.ledger }) = record {
+    let ours = i.is_state.idle s c.unwrap.ensures in
+    let is : IsAtHome (lock_of d.lock) d.seats c.in-Some.j (record { seat = s; ledger = i.state.ledger }) = record {
       own = subst (λ (l : HullLock). IsSeatOf boxed_head l s) c.requires.own ours.own;
-      counts = subst (λ (k : ℕ). IsLedgerOf k (plain (seat_seen s)) i.standing.ledger) (sym ours.numbered) ours.counts;
+      counts = subst (λ (k : ℕ). IsLedgerOf k (plain (seat_seen s)) i.state.ledger) (sym ours.numbered) ours.counts;
       home = omega (arith, ours.numbered, c.in-Some.ensures);
     } in
     record {
@@ -30,7 +30,7 @@ invariant_of-shared_hull c =
         seats = d.laid_out.seats;
         workers = d.laid_out.workers;
         at_home = home_with (lock_of d.lock) d.seats d.places.list.items c.in-Some.j c.replace-none.new.self
-            (record { seat = s; ledger = i.standing.ledger }) c.replace-none.ensures.after is d.laid_out.at_home;
+            (record { seat = s; ledger = i.state.ledger }) c.replace-none.ensures.after is d.laid_out.at_home;
         no_seats = d.laid_out.no_seats;
         no_ledgers = d.laid_out.no_ledgers;
       };

@@ -7,8 +7,8 @@ use Rattle.ticket_lock.specs.declared.seat.Seat.{Seat}
 use Rattle.ticket_lock.specs.Tokens.{IsSeatOf, IsTicketOf, seat_number, seat_seen, ticket_seat, ticket_seen}
 use Rattle.hull_shared.specs.Locks.{HullLock, SharedHullBoxed, boxed_head}
 use Rattle.hull_shared.specs.declared.book.SharedHullHead.{SharedHullHead}
-use Rattle.hull_shared.specs.declared.standing.Standing.{Standing}
-use Rattle.hull_shared.specs.declared.standing.TakenNumber.{TakenNumber}
+use Rattle.hull_shared.specs.declared.seat_state.SeatState.{SeatState}
+use Rattle.hull_shared.specs.declared.seat_state.TakenNumber.{TakenNumber}
 
 -- a seat of the lock of a shared hull
 abbrev pub SeatValue : Type 0
@@ -33,8 +33,8 @@ is_either (Some seat) None = true
 is_either None (Some taken) = true
 is_either _ _ = false
 
--- the standing of the seat with this number at the lock: there is the seat or a number that it took
-pub record StandsAt (lock : HullLock) (number : ℕ) (standing : Standing) : Type 0 where
-  pub either : is_either standing.seat standing.taken ≡ true
-  pub idle : (seat : SeatValue) → standing.seat ≡ Some seat → IsSeatAt lock number standing.ledger seat
-  pub waiting : (taken : TakenNumber) → standing.taken ≡ Some taken → IsTakenAt lock number standing.ledger taken
+-- the state of the seat with this number at the lock: there is the seat or a number that it took
+pub record IsSeatStateAt (lock : HullLock) (number : ℕ) (state : SeatState) : Type 0 where
+  pub either : is_either state.seat state.taken ≡ true
+  pub idle : (seat : SeatValue) → state.seat ≡ Some seat → IsSeatAt lock number state.ledger seat
+  pub waiting : (taken : TakenNumber) → state.taken ≡ Some taken → IsTakenAt lock number state.ledger taken

@@ -11,7 +11,7 @@ pub(crate) struct TakenNumber {
 
 /// The ledger of an acquired seat, and either the seat of the lock or the number that the seat took. A call that is
 /// served at once takes the seat out and puts it back in its place, which moves one byte.
-pub(crate) struct Standing {
+pub(crate) struct SeatState {
     pub(crate) ledger: Ledger,
     /// The seat, if it has no number.
     pub(crate) seat: Option<SharedHullSeat>,
