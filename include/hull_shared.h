@@ -559,7 +559,8 @@ static inline hull_shared_reply hull_seat_count(hull_shared_seat *seat) {
  * for `hullbook check`.) Files of versions before 3.1 have no checksums until they are compacted.
  *
  * The calls of this section need a POSIX file system and a library of threads. One process has a file at a time (flock), and
- * no other program may write, replace or remove it. A child of a fork does not have a file whose journal was started. The signals
+ * no other program may write, replace or remove it. A child of a fork does not have a file whose journal was started: there each
+ * call on it, and the one that closes it, fails with NO_FILE (EBADF), and its shared hull stays open. The signals
  * of a process do not come to the journal's thread. The path is resolved once, when it is opened: a symbolic link names the file
  * that it leads to, and one that leads to none is refused. */
 typedef struct hull_shared_journal hull_shared_journal;

@@ -14,6 +14,7 @@
 #include <iostream>
 #include <random>
 #include <sstream>
+#include <sys/wait.h>
 #include <thread>
 #include <unistd.h>
 #include <unordered_set>
@@ -550,6 +551,30 @@ static void closes_after_syncs(const std::string &path) {
     CHECK(!was_closed.exchange(false));
 }
 
+// a child of a fork ends a hull with a file, which stays its parent's; also one that is waited for in another thread of that
+static void ends_in_a_child(const std::string &path) {
+    SharedHull h = SharedHull::open_journal(path, {9, 0, 1000, 1});
+    h.acquire_seat(0).add({1, 1});
+    syncs_wait = true;
+    std::thread syncs([&] { h.sync(); });
+    while (!is_syncing) {
+        std::this_thread::sleep_for(milliseconds(1));
+    }
+    int status = -1;
+    const pid_t child = fork();
+    if (child == 0) {
+        alarm(20);
+        { SharedHull ended = std::move(h); }
+        execlp("sh", "sh", "-c", "exit 7", nullptr); // (what is left of the hull is no leak that valgrind should tell)
+        _exit(8);
+    }
+    CHECK(waitpid(child, &status, 0) == child && WIFEXITED(status) && WEXITSTATUS(status) == 7);
+    syncs_wait = is_syncing = false;
+    syncs.join();
+    h.close();
+    CHECK(SharedHull::open_journal(path, {9, 0, 9, 1}).acquire_seat(0).count() == 1);
+}
+
 // lines are durable by themselves if an interval is set, and else when a thread waits; a failed write is reported once, with errno
 static void journals() {
     char folder[] = "/tmp/hull_answersXXXXXX";
@@ -558,6 +583,8 @@ static void journals() {
     refused_files(path);
     std::remove(path.c_str());
     closes_after_syncs(path);
+    std::remove(path.c_str());
+    ends_in_a_child(path);
     std::remove(path.c_str());
     for (const milliseconds every : {milliseconds(0), milliseconds(20)}) {
         SharedHull h = SharedHull::open_journal(path, {9, 0, 1000, 1}, every);

@@ -491,6 +491,27 @@ static void leaves_no_child_its_file(void) {
     end_idle(idle[0]);
 }
 
+/* In a child of a fork a started journal has no file: its calls say so at once, also the one that closes it, and the parent goes on. */
+static void ends_in_a_child(void) {
+    hull_shared_journal *journal = start(0, 1000);
+    check("durable", add_durably(journal, 1, 1).code, HULL_DURABLE);
+    check("release", hull_shared_release_seat(shared, seat), HULL_RELEASED);
+    const pid_t child = fork();
+    if (child == 0) {
+        alarm(20);
+        const hull_reply now = hull_shared_journal_durable(journal), all = hull_shared_journal_sync(journal, HULL_SHARED_NEVER);
+        const hull_reply one = hull_shared_journal_wait(journal, 100, HULL_SHARED_NEVER), closed = hull_shared_journal_close(journal);
+        const int are_refused = now.code == HULL_NO_FILE && all.code == HULL_NO_FILE && one.code == HULL_NO_FILE && closed.code == HULL_NO_FILE;
+        _exit(are_refused && closed.high == EBADF && closed.number == now.number && hull_shared_close(shared) == HULL_SEATS_OUT ? 7 : 1);
+    }
+    int status = -1;
+    check("its end", (uint64_t)waitpid(child, &status, 0), (uint64_t)child);
+    check("its status", (uint64_t)status, 7 << 8);
+    check("acquire", hull_shared_acquire_seat(shared, &gate, seat, 0), HULL_ACQUIRED);
+    check("the parent's", add_durably(journal, 2, 2).code, HULL_DURABLE);
+    stop(journal, HULL_CLOSED);
+}
+
 /* A process with no other thread opens a journal, and a child of it continues with that: the file is locked as long as one of both has it. */
 static void may_be_continued_by_a_child(void) {
     hull_shared_journal *journal = open_journal(0), *another;
@@ -1649,6 +1670,7 @@ static const struct {
     {"closes_after_its_thread_rests", closes_after_its_thread_rests},
     {"closes_beside_waiters", closes_beside_waiters},
     {"leaves_no_child_its_file", leaves_no_child_its_file},
+    {"ends_in_a_child", ends_in_a_child},
     {"may_be_continued_by_a_child", may_be_continued_by_a_child},
     {"syncs_before_it_reports", syncs_before_it_reports},
     {"answers_all_waiters", answers_all_waiters},

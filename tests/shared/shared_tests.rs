@@ -386,6 +386,7 @@ fn times_between_writes() {
 /// A seat with no line waits for none; files that are refused are closed, and say why.
 #[test]
 fn files_that_are_refused() {
+    let _alone = WITHOUT_FORKS.lock();
     let folder = Folder::new("refused");
     let limits = Limits { points: 9, first: 0, capacity: 50, seats: 1 };
     let wrong = [Limits { capacity: 0, ..limits }, Limits { points: 0, ..limits }, Limits { seats: SEAT_LIMIT, ..limits }];
@@ -478,6 +479,40 @@ fn stays_open_while_a_reader_is_acquired() {
     assert_eq!(seat.wait_durable(), Err(Fault::NoFile { errno: ESTALE }));
     seat.release();
     assert_eq!(hull.close(), Err(Fault::NoFile { errno: ESTALE }));
+}
+
+/// A file that is made for an opening that is refused stays if the process forks just then: a child may continue with it.
+static WITHOUT_FORKS: Mutex<()> = Mutex::new(());
+
+/// A child of a fork drops a hull with a file, which stays its parent's.
+#[test]
+fn dropped_in_a_child() {
+    let _alone = WITHOUT_FORKS.lock();
+    extern "C" {
+        fn fork() -> i32;
+        fn alarm(seconds: u32) -> u32;
+        fn _exit(status: i32) -> !;
+        fn waitpid(child: i32, status: *mut i32, options: i32) -> i32;
+    }
+    let folder = Folder::new("child");
+    let limits = Limits { points: 9, first: 0, capacity: 50, seats: 2 };
+    let hull = SharedHull::open_journal(folder.file(), limits, None).unwrap();
+    let mut status = 0;
+    // SAFETY: the child calls nothing that another thread may have been in the middle of, and ends without returning.
+    unsafe {
+        let child = fork();
+        if child == 0 {
+            alarm(100);
+            drop(std::ptr::read(&hull));
+            // (what is left of the hull is no leak that valgrind should tell)
+            let _ = std::os::unix::process::CommandExt::exec(std::process::Command::new("sh").args(["-c", "exit 7"]));
+            _exit(8);
+        }
+        assert_eq!((waitpid(child, &mut status, 0), status), (child, 7 << 8));
+    }
+    hull.acquire_seat(0).unwrap().add(point(1, 1)).unwrap();
+    hull.close().unwrap();
+    assert_eq!(folder.additions(), 1);
 }
 
 /// Threads that wait for a durable line while another thread closes the hull get their result.

@@ -152,10 +152,15 @@ impl Shared {
 
 impl Drop for Shared {
     fn drop(&mut self) {
-        let hull = self.lock();
-        let _ = self.end_journal(&hull);
-        // SAFETY: a shared hull is in the storage. All seats are released, since each owns the shared hull until then.
+        // (no lock is taken: in a child of a fork, a thread that had it does not exist)
+        let journal = self.journal.get_mut().unwrap_or_else(PoisonError::into_inner).take();
+        let hull = self.hull.get_mut().unwrap_or_else(PoisonError::into_inner);
+        // SAFETY: a shared hull is in the storage. All seats are released, since each owns the shared hull until then. No other thread
+        // has the journal.
         unsafe {
+            if let Some(JournalFile(at)) = journal {
+                raw::hull_shared_journal_close(at.as_ptr());
+            }
             raw::hull_shared_close(hull.at());
             raw::hull_shared_end(hull.at());
             raw::hull_shared_gate_end(self.gate.at());
