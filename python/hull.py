@@ -56,7 +56,7 @@ from typing import SupportsIndex, Tuple, TypeVar, Union, overload
 if sys.version_info < (3, 8):
     raise ImportError("the module hull needs Python 3.8 or later")
 
-__version__ = "3.11.0"
+__version__ = "3.12.0"
 __all__ = [
     "CAPACITY_LIMIT", "COORDINATE_LIMIT", "MULTIPLICITY_LIMIT", "POINT_LIMIT", "READER_LIMIT", "SEAT_LIMIT", "Busy", "Ended",
     "FloatHull", "GrowingHull", "Hull", "JournalFault", "JournalFull", "JournalSegment", "Lattice", "Motion", "NoSeat", "OutOfRange", "Place", "Polygon",
