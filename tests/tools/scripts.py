@@ -140,6 +140,7 @@ def on_terminal(top, *words, env, keys=b"", once=""):
     if pid == 0:
         # (the command is not the leader of the session, as it is not where a shell has started it)
         signal.signal(signal.SIGINT, lambda *_: None)
+        signal.signal(signal.SIGHUP, signal.SIG_DFL)  # (which `nohup` ignores)
         os._exit(subprocess.run(words, cwd=top, env={**os.environ, **env}, check=False).returncode % 256)
     shown, typed, until = b"", not keys, time.monotonic() + 120
     while time.monotonic() < until or os.kill(pid, signal.SIGKILL):

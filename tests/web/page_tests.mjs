@@ -544,8 +544,8 @@ async function tryFingers() {
     });
     await tried("a finger takes a point along", async () => {
         const from = await at([0, 9]), to = await at([4, 15]);
-        await tab.slide(from, to);
-        await tab.settled();
+        // (a browser that gets the finger's steps late, on a busy machine, takes it for one that stays, and asks)
+        for (let i = 0; i < 10 && (await held()).some(([key]) => key === "0 9"); i++) await tab.slide(from, to);
         assert.deepEqual((await held()).map(([key]) => key), ["-10 -8", "10 -8", "4 15"]);
         await press("undo");
         assert.deepEqual((await held()).map(([key]) => key), ["-10 -8", "0 9", "10 -8"]);
