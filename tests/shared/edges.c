@@ -512,6 +512,32 @@ static void ends_in_a_child(void) {
     stop(journal, HULL_CLOSED);
 }
 
+/* Calls on a journal in a thread that is to be cancelled: each returns, and only then the thread ends. */
+static int were_made;
+static void *make_calls(void *own) {
+    hull_shared_journal *journal;
+    (void)own;
+    pthread_cancel(pthread_self());
+    were_made = hull_shared_journal_open(path, &journal).code == HULL_OPEN;
+    were_made &= hull_shared_journal_start(journal, shared, &gate, 30, 90, 1, 0).code == HULL_OPEN;
+    were_made &= hull_shared_journal_sync(journal, HULL_SHARED_NEVER).code == HULL_DURABLE;
+    were_made &= hull_shared_journal_close(journal).code == HULL_CLOSED;
+    were_made &= hull_shared_journal_compact(path).code == HULL_DURABLE;
+    were_made = 1 + were_made;
+    pthread_testcancel();
+    return NULL;
+}
+
+static void is_not_cancelled(void) {
+    pthread_t thread;
+    void *result;
+    check("a thread", (uint64_t)pthread_create(&thread, NULL, make_calls, NULL), 0);
+    pthread_join(thread, &result);
+    check("it was cancelled after its calls", result == PTHREAD_CANCELED && were_made == 2, 1);
+    check("end", hull_shared_end(shared), HULL_ENDED);
+    end_idle(begin_idle()); /* (no lock is left that a fork waits for) */
+}
+
 /* A process with no other thread opens a journal, and a child of it continues with that: the file is locked as long as one of both has it. */
 static void may_be_continued_by_a_child(void) {
     hull_shared_journal *journal = open_journal(0), *another;
@@ -1671,6 +1697,7 @@ static const struct {
     {"closes_beside_waiters", closes_beside_waiters},
     {"leaves_no_child_its_file", leaves_no_child_its_file},
     {"ends_in_a_child", ends_in_a_child},
+    {"is_not_cancelled", is_not_cancelled},
     {"may_be_continued_by_a_child", may_be_continued_by_a_child},
     {"syncs_before_it_reports", syncs_before_it_reports},
     {"answers_all_waiters", answers_all_waiters},
