@@ -28,6 +28,9 @@ explain_fault() {
     file=
     for word in "$@"; do [ -f "$word" ] && file=$word; done
     echo "hullbook: fault $1: $(meaning_of "$1")" >&2
+    case $1:$(head -c 14 "${file:-/dev/null}" | tr -d '\000') in
+    7:'hullbook file ') echo "hullbook: it is the file of a shared hull, a row of journals: docs/SHARED.md says how to separate them" >&2 ;;
+    esac
     [ -z "$file" ] || [ "$#" -gt 4 ] || sed -n "$2{s/^/hullbook: line $2 is: /;p;q;}" "$file" | cut -c 1-200 | cat -vt >&2
 }
 

@@ -67,6 +67,10 @@ def test_explanations(tests):
             fault = f"hullbook: line 3: fault {number}\n"
             tests.same(f"fault {number}", asked("check", "text", STATUS="2", ERR=fault.replace("\n", "\\n")), (2, f"{fault}{said('check', 'text')}"
                 f"hullbook: fault {number}: {meaning}\n".replace(": \n", ": ") + ("\n" if not meaning else "") + "hullbook: line 3 is: third\n"))
+        write(f"{top}/file", "hullbook file 1 sum 0123456789abcdef\n")
+        tests.same("the file of a shared hull", asked("check", "file", STATUS="2", ERR="hullbook: line 1: fault 7\\n"), (2, f"hullbook: line 1: fault 7\n"
+            f"{said('check', 'file')}hullbook: fault 7: {MEANINGS[7]}\nhullbook: it is the file of a shared hull, a row of journals: docs/SHARED.md says how"
+            " to separate them\nhullbook: line 1 is: hullbook file 1 sum 0123456789abcdef\n"))
         for status in (1, 5, 69):
             tests.same(f"nothing more of status {status}", asked("run", "text", STATUS=str(status), ERR="hullbook: usage\\n"),
                 (status, f"hullbook: usage\n{said('run', 'text')}"))
