@@ -148,6 +148,7 @@ export class Page {
         try {
             run();
         } catch (error) {
+            if (this.mode === "example") this.#enter("draw"); // (where the reason is seen)
             this.work.message = `${name}: ${error.message}`;
             this.fault = error.line ? { where: `line ${error.line} of ${error.file ?? name}`, found: error.found, expected: error.expected } : null;
         }
@@ -533,13 +534,15 @@ export class Page {
 
     /** Opens files: one, or the segments of a journal, or several of points. */
     async opened(files) {
-        this.open(await Promise.all(Array.from(files, async (file) => ({ name: file.name, text: await file.text() }))));
+        // (a folder, or a file that is too large, or no longer there, can't be read)
+        this.open(await Promise.all(Array.from(files, async (file) => ({ name: file.name, text: await file.text().catch((error) => ({ error })) }))));
     }
 
     /** Opens texts with their names, in place of all that there is; if one is wrong, that is shown and nothing changes. */
     open(texts) {
         if (texts.length === 0) return;
         this.#tried(texts.map((it) => it.name).join(", "), () => {
+            for (const { text: { error } } of texts) if (error) throw error;
             const kinds = new Set(texts.map(({ text }) => kindOf(text) === "journal"));
             if (kinds.size > 1) throw new RangeError("journals and points are not opened together");
             if (kinds.has(true)) this.#openJournals(texts);

@@ -362,6 +362,18 @@ async function tryFiles() {
         assert.deepEqual([await text("wrong-where"), await text("wrong-found")], ["line 2 of points.csv", "3,x"]);
         assert.equal(await journal(), before);
     });
+    await tried("a file that can't be read, and one that is wrong and falls on the example, say so", async () => {
+        const before = await journal();
+        await value("page.opened([{ name: 'folder', text: () => Promise.reject(new Error('it was not to be had')) }, { name: 'two', text: async () => '1,2' }])");
+        await tab.settled();
+        assert.equal(await text("last"), "folder, two: it was not to be had");
+        await press("own");
+        assert.equal(await value("page.mode"), "example");
+        await tab.drop({ "wrong.csv": "1,2\n3,x\n" });
+        await tab.until('page.mode === "draw"');
+        await tab.settled();
+        assert.deepEqual([await text("wrong-where"), await journal()], ["line 2 of wrong.csv", before]);
+    });
     await tried("the segments of a journal are opened together, in whatever order, and a missing one is reported", async () => {
         const segment = (first, ...lines) => `hullbook journal 3 first ${first} limit 9 capacity 4\n${lines.map((it, i) => `${first + i} 0 ${it}\n`).join("")}end ${lines.length}\n`;
         const segments = [segment(0, "add 0 0 = added", "add 9 0 = added"), segment(2, "add 0 9 = added"), segment(3, "place 1 1 = inside", "count = count 4")];
