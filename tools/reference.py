@@ -2,7 +2,7 @@
 """Writes what is made of comments: beside each library that has a caller in `callers` the page CALLING.md, with that caller and all public
 names.
 
-    tools/reference.py                 compares, and tests the lengths of the pages in docs/
+    tools/reference.py                 compares, and tests the lengths of the pages in docs/ and the mutants that one of them names
     tools/reference.py --write         writes these pages
     tools/reference.py --definitions   writes out/DEFINITIONS.md: what each definition means that a public contract can name
 
@@ -44,6 +44,8 @@ This is `{path}`, which is proved. What each function requires and ensures is wr
 """
 # how many words docs/ may have, and how many a section of a page may have: what a section is, and where one ends
 BY_HAND = 20000
+# the page whose tables name mutants
+MUTANTS = "docs/ASSURANCE.md"
 PARTS = {
     "docs/PROVED.md": ("a cell", 60, r"\||(?m:^(?!\|).*\n)"),
     "docs/DECISIONS.md": ("a decision", 120, r"\n\n(?=\*\*|#)"),
@@ -155,6 +157,15 @@ def too_long():
                 yield f"{page}: FAILED, {what} has {len(part.split())} words of {most}: {' '.join(part.split()[:8])}"
 
 
+def missing_mutants():
+    """The mutants that a table names and that no crate has, a line each."""
+    path = f"{kit.TOP}/{MUTANTS}"
+    rows = [it for it in (kit.text_of(path) if os.path.isfile(path) else "").splitlines() if it.startswith("|")]
+    for name in sorted({it for row in rows for it in re.findall(r"`([a-z0-9]+(?:-[a-z0-9]+)+)`", row)}):
+        if not any(os.path.isfile(f"{kit.TOP}/crates/{crate}/{of}/{name}.edit") for crate in kit.crates() for of in ("mutants", "must-fail")):
+            yield f"{MUTANTS}: FAILED, no crate has a mutant {name}"
+
+
 def main(words):
     if words == ["--definitions"]:
         os.makedirs(f"{kit.TOP}/out", exist_ok=True)
@@ -174,9 +185,9 @@ def main(words):
         passed, failed = passed + same, failed + (not same)
         if not same:
             print(f"{page}: FAILED, it is not what the comments and callers say: tools/reference.py --write")
-    long = [*too_long()]
-    print("".join(f"{it}\n" for it in long), end="")
-    passed, failed = passed + (not long), failed + len(long)
+    for faults in ([*too_long()], [*missing_mutants()]):
+        print("".join(f"{it}\n" for it in faults), end="")
+        passed, failed = passed + (not faults), failed + len(faults)
     print(f"{passed} passed, {failed} failed")
     return 1 if failed else 0
 

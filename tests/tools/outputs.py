@@ -160,8 +160,8 @@ def test_reference_output(tests):
             write(f"{top}/{page}", "A word.\n")
         pages = ("crates/small/CALLING.md", "crates/bare/CALLING.md")
         differ = "".join(f"{it}: FAILED, it is not what the comments and callers say: tools/reference.py --write\n" for it in pages)
-        tests.same("two pages that are not there", run(top, "tools/reference.py"), (1, f"{differ}1 passed, 2 failed\n"))
-        tests.same("--write", run(top, "tools/reference.py", "--write"), (0, "3 passed, 0 failed\n"))
+        tests.same("two pages that are not there", run(top, "tools/reference.py"), (1, f"{differ}2 passed, 2 failed\n"))
+        tests.same("--write", run(top, "tools/reference.py", "--write"), (0, "4 passed, 0 failed\n"))
         tests.same("the page of a crate with an example", kit.text_of(f"{top}/{pages[0]}"), CALLING)
         tests.see("the page of one with a caller", "This is `crates/user/src/of.rt`, " in kit.text_of(f"{top}/{pages[1]}"))
         tests.same("--definitions", run(top, "tools/reference.py", "--definitions"), (0, "out/DEFINITIONS.md\n"))
@@ -174,7 +174,11 @@ def test_reference_output(tests):
                    "docs/ARCHITECTURE.md: FAILED, a sentence has 36 words of 35: one one one one one one one one\n"
         differ = differ.partition("\n")[0]
         tests.same("one page that differs, and three that are too long", run(top, "tools/reference.py"),
-            (1, f"{differ}\n{too_long}1 passed, 4 failed\n"))
+            (1, f"{differ}\n{too_long}2 passed, 4 failed\n"))
+        write(f"{top}/docs/ASSURANCE.md", "| a bug | `small`: `it-is-there`, `it-is-not` |\nNo row: `not-a-mutant`\n")
+        write(f"{top}/crates/small/mutants/it-is-there.edit", "file: src/lib.rt\n")
+        tests.same("a mutant that is named and not there", run(top, "tools/reference.py"),
+            (1, f"{differ}\n{too_long.replace('20104', '20115')}docs/ASSURANCE.md: FAILED, no crate has a mutant it-is-not\n1 passed, 5 failed\n"))
         run(top, "tools/reference.py", "--write")
         lines = [len(it) for it in kit.text_of(f"{top}/{pages[0]}").splitlines()]
         tests.same("the lengths of its lines", [it for it in lines if it > 120], [139, 134, 139])
