@@ -67,7 +67,10 @@ def lay(top):
     lay_tools(top)
     for it in ("include", "man", "python", "c", "rust", "examples", "docs", "web", "LICENSE", "CHANGELOG.md", "README.md", "HANDLES",
             "pyproject.toml"):
-        (shutil.copytree if os.path.isdir(f"{TOP}/{it}") else shutil.copy)(f"{TOP}/{it}", f"{top}/{it}")
+        if os.path.isdir(f"{TOP}/{it}"):
+            shutil.copytree(f"{TOP}/{it}", f"{top}/{it}", ignore=shutil.ignore_patterns("__pycache__", "target", "out"))
+        else:
+            shutil.copy(f"{TOP}/{it}", f"{top}/{it}")
     write(f"{top}/VERSION", "7.8.9\n")
     write(f"{top}/tools/product.sh", PRODUCT, 0o755)
     write(f"{top}/crates.txt", "low:\nhull_c staticlib: low\nother:\nhull_shared staticlib: low\n")
