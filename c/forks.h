@@ -8,15 +8,15 @@
 
 #if defined(__linux__)
 extern int __register_atfork(void (*before)(void), void (*in_parent)(void), void (*in_child)(void), void *object);
-/* What a compiler's start files give each object, by which its functions are forgotten when it is unloaded; an object without them stays. */
+/* The handle of the shared object or program, which the compiler's start files define: glibc removes the handlers of an object that is unloaded. */
 extern void *__dso_handle;
 #pragma weak __register_atfork
 #pragma weak pthread_atfork
 #pragma weak __dso_handle
 #endif
 
-/* Has these called: the first before each fork, the others after it, in the parent and in the child. Returns whether memory was there. (A
- * program that is linked statically and does not fork may have neither function.) */
+/* Registers handlers of forks: the first is called before each fork, the others after it, in the parent and in the child. Returns whether there
+ * was memory. (A program that is linked statically and does not fork may have neither function.) */
 static inline int hull_at_fork(void (*before)(void), void (*in_parent)(void), void (*in_child)(void)) {
 #if defined(__linux__)
     if (__register_atfork != NULL) {

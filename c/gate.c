@@ -184,8 +184,8 @@ struct binding {
     hull_shared_reply reply;
 };
 
-/* The sizes of a line of the cache, of the lines of a proved seat, and of a seat's storage. (A call is not to ask for the size of a proved seat;
- * gate_steps.c does.) */
+/* The sizes of a cache line, of the cache lines of a proved seat, and of a seat's storage. (They are constants, so that no call computes them;
+ * gate_steps.c compares them with the size that the proved code reports.) */
 enum { LINE = 64, PROVED_SEAT = 2 * LINE, SEAT = PROVED_SEAT + (sizeof(struct binding) + LINE - 1) / LINE * LINE };
 
 static struct binding *binding_of(hull_shared_seat *seat) {
@@ -678,7 +678,7 @@ IN_LINE uint32_t claim_or_announce(struct gate *gate, uint64_t number) {
     return seat != 0 ? seat : announce_and_claim(gate, number);
 }
 
-/* Fetches a line of the cache to be written. (Without a flag, gcc fetches it to be read on x86-64, and it has to be fetched again.) */
+/* Prefetches a cache line for writing. (On x86-64 gcc would prefetch it for reading, and a write would have to fetch it again.) */
 static inline void fetch(const void *at) {
 #if defined(__x86_64__)
     __asm__ volatile("prefetchw %0" : : "m"(*(const unsigned char *)at));
@@ -687,7 +687,7 @@ static inline void fetch(const void *at) {
 #endif
 }
 
-/* Fetches ahead what a thread needs to serve the seat that is posted with a number, if one is, and the slot after it. */
+/* Prefetches what this thread needs to serve the seat that is posted with a number, if one is posted, and the next slot. */
 static void fetch_ahead(struct gate *gate, uint64_t number) {
     const struct slot *slot = &gate->slots[number % HULL_SHARED_SEATS_MAX];
     const uint64_t word = __atomic_load_n(&slot->word, __ATOMIC_RELAXED);
@@ -712,7 +712,7 @@ static uint64_t bit_of(uint32_t seat) {
     return UINT64_C(1) << (seat - 1);
 }
 
-/* Wakes those threads that may sleep among those of these seats, which were given their notices before; not one that is posted again. */
+/* Wakes the threads of these seats that may sleep; each has its notice already. A thread that has posted its seat again is not woken. */
 static void wake_notified(struct gate *gate, uint64_t notified) {
     uint64_t left;
     __atomic_thread_fence(__ATOMIC_SEQ_CST);
@@ -817,8 +817,8 @@ static uint64_t post_of(const struct call *call, uint64_t number) {
     return number * ONE_NUMBER + (call->number - 1) * ONE_SEAT + POSTED;
 }
 
-/* Sets what the call of a posted seat writes to. (It is mostly unchanged; then the line of the cache, which the thread that served the seat has
- * written, is not fetched to be written.) */
+/* Sets the target that the call of a posted seat writes to. (Most calls leave it unchanged, so it is compared first: a write would fetch the cache
+ * line from the processor whose thread served the seat.) */
 static void set_target(struct binding *binding, const hull_shared_target *to) {
     if (binding->to.out != to->out || binding->to.capacity != to->capacity || binding->to.segment != to->segment) {
         binding->to = *to;
@@ -841,12 +841,12 @@ static int take_back(const struct call *call, uint64_t number) {
     return try_change_slot(slot_of(call->gate, number), &word, word - POSTED + CLAIMED);
 }
 
-/* Whether the number of a posted seat is announced; then the post is taken back, unless a thread has claimed it. */
-static int is_taken_back(const struct call *call, uint64_t number) {
+/* Takes a post back if its number is announced, unless another thread has claimed it; returns whether it was taken back. */
+static int take_back_if_announced(const struct call *call, uint64_t number) {
     return __atomic_load_n(&call->gate->announced, __ATOMIC_SEQ_CST) == number && take_back(call, number);
 }
 
-/* Sleeps until the posted seat of a call may have its notice. */
+/* Sleeps until the posted seat of a call has its notice. */
 static void sleep_posted(const struct call *call, uint32_t *notice) {
     const uint64_t bit = bit_of(call->number);
     __atomic_fetch_or(&call->gate->sleepers, bit, __ATOMIC_SEQ_CST);
@@ -864,7 +864,7 @@ static uint32_t await_notice(const struct call *call, uint64_t number) {
     uint32_t *notice = &node_of(call->gate, call->number)->notice, seen;
     unsigned looks = 0;
     while ((seen = __atomic_load_n(notice, __ATOMIC_SEQ_CST)) == WAITS) {
-        if (is_taken_back(call, number)) {
+        if (take_back_if_announced(call, number)) {
             return IS_TO_LOOK;
         }
         if (looks < POSTED_LOOKS) {

@@ -1,4 +1,4 @@
-/* An exact convex hull of points with integer coordinates that come and go: the header of libhull.a.
+/* An exact dynamic convex hull of points with integer coordinates: the header of libhull.a.
  *
  * A set contains points (x, y), each with a multiplicity of at least 1. Questions are about the convex hull of its points.
  * Coordinates are from -HULL_COORDINATE_MAX to HULL_COORDINATE_MAX. Answers are exact; an area is returned doubled, so that it

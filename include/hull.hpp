@@ -131,7 +131,7 @@ private:
         return "the call was refused";
     }
 
-    // What an errno of a journal file means, where the system's words do not say it.
+    // Returns the meaning of an errno of a journal file, if the system's text does not give it.
     static const char *why(std::uint64_t number) noexcept {
         return number == EWOULDBLOCK ? " (another hull has the file)"
                : number == ESTALE    ? " (another program has changed, replaced or removed the file)"

@@ -1,4 +1,4 @@
-"""An exact convex hull of points with integer coordinates that come and go, over verified code.
+"""An exact dynamic convex hull of points with integer coordinates, over verified code.
 
     from hull import Hull, Place
     hull = Hull([(0, 0), (10, 0), (10, 10), (0, 10)])
@@ -2142,13 +2142,13 @@ def _file(path: "Union[str, bytes, os.PathLike[str]]") -> bytes:
 
 
 def _shared_of(hull: SharedHull) -> Any:
-    """Returns the address of a shared hull; TypeError for what is none, at which the library would find anything."""
+    """Returns the address of a shared hull. Raises TypeError for any other object, since the library cannot check an address."""
     if not isinstance(hull, SharedHull):
-        raise TypeError(f"seats and readers are those of a SharedHull, and not of {hull!r}")
+        raise TypeError(f"a Seat or a Reader is made of a SharedHull, not of {hull!r}")
     return hull._shared
 
 
-# why the system refuses a call on a journal file, where its own words do not say it
+# the meaning of an errno of a journal file, if the system's text does not give it
 _WHY = {errno.EWOULDBLOCK: " (another hull has the file)", errno.ESTALE: " (another program has changed, replaced or removed the file)"}
 
 

@@ -29,7 +29,7 @@ explain_fault() {
     for word in "$@"; do [ -f "$word" ] && file=$word; done
     echo "hullbook: fault $1: $(meaning_of "$1")" >&2
     case $1:$(head -c 14 "${file:-/dev/null}" | tr -d '\000') in
-    7:'hullbook file ') echo "hullbook: it is the file of a shared hull, a row of journals: docs/SHARED.md says how to separate them" >&2 ;;
+    7:'hullbook file ') echo "hullbook: this is the journal file of a shared hull, several journals in a row: docs/SHARED.md says how to separate them" >&2 ;;
     esac
     [ -z "$file" ] || [ "$#" -gt 4 ] || sed -n "$2{s/^/hullbook: line $2 is: /;p;q;}" "$file" | cut -c 1-200 | cat -vt >&2
 }
@@ -50,7 +50,7 @@ say_more() {
     said=$("$program" "$@" 2>&1 >/dev/null)
     case $said in
     *usage)
-        are_utf8 "$@" || echo 'hullbook: a word is not UTF-8: give a file of such a name as /dev/stdin' >&2
+        are_utf8 "$@" || echo 'hullbook: an argument is not UTF-8: redirect a file of such a name, and name it /dev/stdin' >&2
         echo "$synopsis" >&2
         ;;
     *'line '*': fault '*)

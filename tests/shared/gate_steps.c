@@ -291,7 +291,7 @@ static void check_lock(void) {
     check("none is woken if none sleeps", woken.count, 2);
 }
 
-/* What the gate keeps of a seat is behind the proved seat. */
+/* The gate's data of a seat come after the proved seat in its storage. */
 static void check_storage(void) {
     check("the lines of a proved seat", hull_proved_shared_seat_size() <= PROVED_SEAT, 1);
     check("no line more", hull_proved_shared_seat_size() > PROVED_SEAT - LINE, 1);

@@ -69,7 +69,7 @@ def test_explanations(tests):
                 f"hullbook: fault {number}: {meaning}\n".replace(": \n", ": ") + ("\n" if not meaning else "") + "hullbook: line 3 is: third\n"))
         write(f"{top}/file", "hullbook file 1 sum 0123456789abcdef\n")
         tests.same("the file of a shared hull", asked("check", "file", STATUS="2", ERR="hullbook: line 1: fault 7\\n"), (2, f"hullbook: line 1: fault 7\n"
-            f"{said('check', 'file')}hullbook: fault 7: {MEANINGS[7]}\nhullbook: it is the file of a shared hull, a row of journals: docs/SHARED.md says how"
+            f"{said('check', 'file')}hullbook: fault 7: {MEANINGS[7]}\nhullbook: this is the journal file of a shared hull, several journals in a row: docs/SHARED.md says how"
             " to separate them\nhullbook: line 1 is: hullbook file 1 sum 0123456789abcdef\n"))
         for status in (1, 5, 69):
             tests.same(f"nothing more of status {status}", asked("run", "text", STATUS=str(status), ERR="hullbook: usage\\n"),
@@ -79,7 +79,7 @@ def test_explanations(tests):
         tests.same("the synopsis", asked("nonsense", STATUS="2", ERR="hullbook: usage\\n"), (2, f"hullbook: usage\n{said('nonsense')}{SYNOPSIS}"))
         word = os.fsdecode(b"\xffile")
         tests.same("a name that is not UTF-8", asked("check", word, STATUS="2", ERR="hullbook: usage\\n"),
-            (2, f"hullbook: usage\n{said('check', word)}hullbook: a word is not UTF-8: give a file of such a name as /dev/stdin\n{SYNOPSIS}"))
+            (2, f"hullbook: usage\n{said('check', word)}hullbook: an argument is not UTF-8: redirect a file of such a name, and name it /dev/stdin\n{SYNOPSIS}"))
         tests.same("one that is", asked("check", "\u00e4", STATUS="2", ERR="hullbook: usage\\n"),
             (2, f"hullbook: usage\n{said('check', chr(0xe4))}{SYNOPSIS}"))
         for word in ("--version", "-V"):

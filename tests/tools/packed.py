@@ -195,14 +195,14 @@ def test_links(tests):
         for name in [one for one in sorted(os.listdir(it.out)) if not one.endswith(".deb")]:
             texts = texts_of(f"{it.out}/{name}")
             pages = [one for one in texts if one.endswith(("README.md", "/METADATA"))]
-            told = {one: leads_out(texts, one) for one in texts if one.endswith((".md", "/METADATA"))}
-            tests.see(f"{name}: each link leads to what is in it", pages and not any(told.values()), told)
+            links = {one: leads_out(texts, one) for one in texts if one.endswith((".md", "/METADATA"))}
+            tests.see(f"{name}: each link leads to what is in it", pages and not any(links.values()), links)
             has = inside if name.endswith("gz") or name.endswith("xz") else inside.replace("[this](LICENSE#top)", "this")
             tests.see(f"{name}: the others are text", all(texts[one].count(has) == 1 for one in pages[:1]), {one: texts[one] for one in pages[:1]})
         if shutil.which("dpkg-deb"):
             run(room, "dpkg-deb", "-x", f"{it.out}/{DEB}", f"{room}/deb")
-            told = kit.text_of(f"{room}/deb/usr/share/doc/hullbook/README.md")
-            tests.see("the package for dpkg", told.startswith(inside.replace("[this](LICENSE#top)", "this")), told)
+            debian_page = kit.text_of(f"{room}/deb/usr/share/doc/hullbook/README.md")
+            tests.see("the package for dpkg", debian_page.startswith(inside.replace("[this](LICENSE#top)", "this")), debian_page)
 
 
 def ordered(names):

@@ -1,4 +1,4 @@
-//! An exact convex hull of points with integer coordinates that come and go: safe Rust over `libhull.a`.
+//! An exact dynamic convex hull of points with integer coordinates: safe Rust over `libhull.a`.
 //!
 //! ```
 //! use hull::{Hull, Place, Point};
@@ -101,7 +101,7 @@ impl fmt::Display for Fault {
             Fault::Illegal { line } => return write!(f, "the journal is not a legal history: line {line} of its text"),
             Fault::TooFewSeats { wanted } => return write!(f, "the journal has lines by {wanted} seats"),
             Fault::NoFile { errno } => {
-                // where the system's words do not say why (the numbers are Linux's)
+                // the meaning, if the system's text does not give it (the numbers are Linux's)
                 let why = match errno {
                     11 => ": another hull has it",
                     116 => ": another program has changed, replaced or removed it",
