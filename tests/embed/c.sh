@@ -55,6 +55,9 @@ programs() {
     attempt "gathered.c compiles" compile gathered $(wrap malloc realloc)
     attempt "hulls whose vertices are gathered answer as others do, and keep them" "$room/gathered"
     # shellcheck disable=SC2046
+    attempt "sizes.c compiles" compile sizes $(wrap malloc realloc free)
+    attempt "how much memory points take in four orders, and after most are removed" "$room/sizes"
+    # shellcheck disable=SC2046
     attempt "refusals.c compiles" compile refusals $(wrap malloc realloc free)
     attempt "each request for memory refused in turn" "$room/refusals"
     # shellcheck disable=SC2046
