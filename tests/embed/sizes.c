@@ -1,5 +1,6 @@
 /* How much memory a hull takes: bytes a point as the allocator counts them, of points in four orders, and of the tenth that is left after the
- * others were removed. Points in order fill the buckets; buckets with few points are merged; and all memory goes back to free.
+ * others were removed. Points in order fill the buckets; buckets with few points are merged; and all memory goes back to free. The blocks of forks
+ * have the size by which c/allocator.c knows forks.
  *
  * malloc, realloc and free go through this file (linked in by --wrap), which counts the bytes of all blocks. */
 #include "hull.h"
@@ -7,11 +8,12 @@
 #include <stdio.h>
 #include <stdlib.h>
 
-enum { POINTS = 64000, SPREAD = 7919 }; /* (a prime that does not divide POINTS, so its multiples are all indices, in no order) */
+enum { POINTS = 64000, SPREAD = 7919, BUCKET_POINTS = 64, FORK_BLOCK = 216 }; /* (a prime that does not divide POINTS, so its multiples are all indices, in no order) */
 enum order { ASCENDING, DESCENDING, OUTWARDS, SPREAD_OUT, ORDERS };
 
 static const char *const names[ORDERS] = {"ascending", "descending", "outwards", "spread out"};
 static size_t bytes;
+static size_t forks; /* how many blocks were asked for that are as large as those of forks */
 static int failed;
 
 void *__real_malloc(size_t n);
@@ -20,6 +22,7 @@ void __real_free(void *p);
 
 void *__wrap_malloc(size_t n) {
     void *p = __real_malloc(n);
+    forks += n == FORK_BLOCK;
     bytes += p == NULL ? 0 : malloc_usable_size(p);
     return p;
 }
@@ -54,7 +57,7 @@ static void check_at_most(enum order order, const char *what, double found, doub
 }
 
 static void check_order(enum order order) {
-    const size_t before = bytes;
+    const size_t before = bytes, forks_before = forks;
     hull_set *h = hull_new(POINTS);
     int64_t i;
     if (h == NULL) {
@@ -65,6 +68,10 @@ static void check_order(enum order order) {
         hull_add(h, x_of(order, i), x_of(order, i) % 1000);
     }
     check_at_most(order, "all points", (double)(bytes - before) / POINTS, order == SPREAD_OUT ? 36 : 24);
+    if (forks - forks_before < POINTS / BUCKET_POINTS - 1) {
+        failed = 1;
+        printf("%s: %zu blocks have the size of those of forks\n", names[order], forks - forks_before);
+    }
     for (i = 0; i < POINTS; i++) {
         int64_t x = x_of(order, i * SPREAD % POINTS);
         if (i % 10 != 0) {

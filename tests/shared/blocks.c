@@ -18,7 +18,7 @@ struct tried rattle_realloc(void *block, size_t kept, size_t count, size_t align
 void rattle_dealloc(void *block);
 int __real_madvise(void *at, size_t bytes, int advice);
 
-enum { LARGE = 4 << 20, PAGE = 4096 };
+enum { LARGE = 4 << 20, PAGE = 4096, FORK = 160, LINE = 64, FORK_BEGINS = 8, FORKS = 1000 };
 static int bad, is_refused;
 static unsigned asked;
 static uintptr_t first, end;
@@ -76,8 +76,27 @@ static void grow(size_t count) {
     rattle_dealloc(block.block);
 }
 
+/* As many forks at once, each beside a block of another size; each keeps its bytes. */
+static void check_forks(void) {
+    static struct tried forks[FORKS], others[FORKS];
+    for (size_t k = 0; k < FORKS; k++) {
+        const size_t other = k % 2 == 0 ? k % 150 : FORK + 16;
+        forks[k] = rattle_alloc(FORK, 8);
+        others[k] = rattle_alloc(other, 8);
+        check("where a fork begins on its line", (uintptr_t)forks[k].block % LINE, FORK_BEGINS);
+        check("where another block begins", (uintptr_t)others[k].block % 16, 0);
+        memset(forks[k].block, (int)(k % 251), FORK);
+        memset(others[k].block, 255, other);
+    }
+    for (size_t k = 0; k < FORKS; k++) {
+        rattle_dealloc(others[k].block);
+        check_bytes(forks[k].block, FORK, (unsigned)(k % 251));
+        rattle_dealloc(forks[k].block);
+    }
+}
+
 int main(void) {
-    static const size_t counts[] = {1, 100, LARGE / 16, LARGE / 2, LARGE - 1, LARGE, LARGE + 1, 5000000, 5000048, 2 * LARGE - 32};
+    static const size_t counts[] = {1, 10, 40, 100, FORK, LARGE / 16, LARGE / 2, LARGE - 1, LARGE, LARGE + 1, 5000000, 5000048, 2 * LARGE - 32};
     for (is_refused = 0; is_refused <= 1; is_refused++) {
         for (size_t k = 0; k < sizeof counts / sizeof counts[0]; k++) {
             errno = 77;
@@ -85,6 +104,7 @@ int main(void) {
             check("errno", (uint64_t)errno, 77);
         }
     }
+    check_forks();
     struct tried none = rattle_alloc(0, 8), too_many = rattle_alloc(SIZE_MAX / 2, 8);
     check("a block of no bytes", none.ok && none.block != NULL, 1);
     check("no memory", too_many.ok, 0);

@@ -54,19 +54,19 @@ pub opened : (left put : Bool) (p : Pair) (n : Node) (h : ℕ) (b : Box Below _)
     → BelongsTo left p b.value.right_ends.first → HasChangedBelow put p n (Fork h b) below → IsOpened left put p n h b.value below
 opened left put p (Leaf c) h b below w here d = absurd d
 opened left put p Taken h b below w here d = absurd d
-opened true put p (Fork' k i le l re r u lo) h b below w here (e, inl (first, v, d)) = record {
+opened true put p (Fork' k i l r re u le lo) h b below w here (e, inl (first, v, d)) = record {
   old = record { left_ends = le; left = l; right_ends = re; right = r; upper = u; lower = lo };
-  at = fork_at true p _ h _ _ _ (ap (λ z. Fork' z i le l re r u lo) (sym e)) refl refl w first;
+  at = fork_at true p _ h _ _ _ (ap (λ z. Fork' z i l r re u le lo) (sym e)) refl refl w first;
   value = v;
   changed = d;
 }
-opened true put p (Fork' k i le l re r u lo) h b below w here (e, inr (first, v, d)) =
+opened true put p (Fork' k i l r re u le lo) h b below w here (e, inr (first, v, d)) =
     absurd (first (subst (IsBefore p) (ap (λ (z : Below). z.right_ends.first) v) here))
-opened false put p (Fork' k i le l re r u lo) h b below w here (e, inl (first, v, d)) =
+opened false put p (Fork' k i l r re u le lo) h b below w here (e, inl (first, v, d)) =
     absurd (here (subst (IsBefore p) (sym (ap (λ (z : Below). z.right_ends.first) v)) first))
-opened false put p (Fork' k i le l re r u lo) h b below w here (e, inr (first, v, d)) = record {
+opened false put p (Fork' k i l r re u le lo) h b below w here (e, inr (first, v, d)) = record {
   old = record { left_ends = le; left = l; right_ends = re; right = r; upper = u; lower = lo };
-  at = fork_at false p _ h _ _ _ (ap (λ z. Fork' z i le l re r u lo) (sym e)) refl refl w first;
+  at = fork_at false p _ h _ _ _ (ap (λ z. Fork' z i l r re u le lo) (sym e)) refl refl w first;
   value = v;
   changed = d;
 }
@@ -87,17 +87,17 @@ changed_above left put p n h old b below at v c changed s =
 pub unreached : (put : Bool) (p : Pair) (n m : Node) (below : Changed) → IsChangeable put n → HasChangedBelow put p n m below
     → IsContained below → HasChanged put p n m below
 unreached put p (Leaf b) (Leaf c) below w d s = changed_leaf put p b c c.value below refl d.0 d.1
-unreached put p (Leaf b) (Fork' k i le l re r u lo) below w d s = absurd d
+unreached put p (Leaf b) (Fork' k i l r re u le lo) below w d s = absurd d
 unreached put p (Leaf b) Taken below w d s = absurd d
 unreached put p Taken m below w d s = absurd d
-unreached put p (Fork' h j xe x ye y q t) (Leaf c) below w d s = absurd d
-unreached put p (Fork' h j xe x ye y q t) Taken below w d s = absurd d
-unreached put p (Fork' h j xe x ye y q t) (Fork' k i le l re r u lo) below w (e, d) s =
-    let same = ap (λ z. Fork' z j xe x ye y q t) (sym e) in
+unreached put p (Fork' h j x y ye q xe t) (Leaf c) below w d s = absurd d
+unreached put p (Fork' h j x y ye q xe t) Taken below w d s = absurd d
+unreached put p (Fork' h j x y ye q xe t) (Fork' k i l r re u le lo) below w (e, d) s =
+    let same = ap (λ z. Fork' z j x y ye q xe t) (sym e) in
     elim d [
-      | inl (first, v, d) ↦ changed_above true put p (Fork' h j xe x ye y q t) k _ _ below
+      | inl (first, v, d) ↦ changed_above true put p (Fork' h j x y ye q xe t) k _ _ below
           (fork_at true p _ k _ _ _ same refl refl w.built first) v w (λ c. unreached put p x l below c d s) s
-      | inr (first, v, d) ↦ changed_above false put p (Fork' h j xe x ye y q t) k _ _ below
+      | inr (first, v, d) ↦ changed_above false put p (Fork' h j x y ye q xe t) k _ _ below
           (fork_at false p _ k _ _ _ same refl refl w.built first) v w (λ c. unreached put p y r below c d s) s
     ]
 
@@ -109,7 +109,7 @@ leaf_below put p n m b below e d =
   where
     go : (n : Node) → HasChangedBelow put p n (Leaf b) below → HasChanged put p n (Leaf b) below
     go (Leaf c) d = changed_leaf put p c b b.value below refl d.0 d.1
-    go (Fork' k i le l re r u lo) d = absurd d
+    go (Fork' k i l r re u le lo) d = absurd d
     go Taken d = absurd d
 
 -- nothing changed below a gap
@@ -118,7 +118,7 @@ none_below put p n m below e d = go n (subst (λ z. HasChangedBelow put p n z be
   where
     go : (n : Node) → ¬ HasChangedBelow put p n Taken below
     go (Leaf c) d = d
-    go (Fork' k i le l re r u lo) d = d
+    go (Fork' k i l r re u le lo) d = d
     go Taken d = d
 
 -- the half of a fork into which another one was put is that one

@@ -51,7 +51,7 @@ all_before p xs (y ∷ ys) s l n = all_of (λ t. IsBefore t p) xs (λ t m.
 -- below a node there are as many counts as points
 pub counts_below : (n : Node) → HasBuckets n → length (multiplicities_below n) ≡ length (points_below n)
 counts_below (Leaf b) h = h.counted
-counts_below (Fork' height i left_ends left right_ends right upper lower) h = omega (
+counts_below (Fork' height i left right right_ends upper left_ends lower) h = omega (
   arith,
   length-append (points_below left) (points_below right),
   length-append (multiplicities_below left) (multiplicities_below right),

@@ -24,7 +24,7 @@ same_candidates side l k m n f lk kl mn nm = grind (arith, common_steps)
 -- the vertices below a node are a candidate list of its points
 pub node_candidates : (side : Side) (n : Node) → HasBuckets n → IsCandidateList side (On (tree_of n)) (Contains (points_below n))
 node_candidates side (Leaf b) h = vertices_candidates side b.value h
-node_candidates side (Fork' height i left_ends left right_ends right upper lower) h =
+node_candidates side (Fork' height i left right right_ends upper left_ends lower) h =
     same_candidates side (λ t. On (tree_of left) t ⊎ On (tree_of right) t) (λ t. On (tree_of left) t ⊎ On (tree_of right) t)
     (λ t. Contains (points_below left) t ⊎ Contains (points_below right) t)
     (Contains (points_below left ++ points_below right))

@@ -7,7 +7,7 @@ use Rattle.bucket_tree.specs.Nodes.{points_below, node_height, HasBuckets, IsBal
 -- a balanced node has at least the fewest points of its height
 enough : (n : Node) → IsBalanced n → HasBuckets n → (fewest (node_height n)).0 ≤ length (points_below n)
 enough (Leaf b) h k = omega (arith, k.some)
-enough (Fork' height i left_ends left right_ends right upper lower) h k =
+enough (Fork' height i left right right_ends upper left_ends lower) h k =
     rw (length-append (points_below left) (points_below right))
     (over (node_height left) (node_height right) (length (points_below left)) (length (points_below right)) h.0
     (enough left h.1 k.0) (enough right h.2 k.1))

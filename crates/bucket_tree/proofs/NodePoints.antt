@@ -23,14 +23,14 @@ last_join xs ys h = grind (arith, common_steps, get_or-append_right, origin, len
 -- there is a point below each node
 pub some_below : (n : Node) → HasBuckets n → 0 < length (points_below n)
 some_below (Leaf b) h = h.some
-some_below (Fork' height i left_ends left right_ends right upper lower) h =
+some_below (Fork' height i left right right_ends upper left_ends lower) h =
     omega (arith, length-append (points_below left) (points_below right), some_below left h.0)
 some_below Taken h = absurd h
 
 -- if all below a node are buckets, no gap is left
 pub whole : (n : Node) → HasBuckets n → IsWhole n
 whole (Leaf b) h = tt
-whole (Fork' height i left_ends left right_ends right upper lower) h = (whole left h.0, whole right h.1)
+whole (Fork' height i left right right_ends upper left_ends lower) h = (whole left h.0, whole right h.1)
 whole Taken h = absurd h
 
 -- the first point below a fork is that below its left half

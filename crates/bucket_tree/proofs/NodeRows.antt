@@ -21,7 +21,7 @@ vertices_in_row l r w p q i j = set_apart (points_below l) (points_below r) p q 
 -- the vertices' half is at most 6 higher than the tree of forks
 pub vertices_low : (n : Node) → HasBuckets n → height_of (tree_of n) ≤ node_height n + 6
 vertices_low (Leaf b) h = bucket_low b.value h
-vertices_low (Fork' height i left_ends left right_ends right upper lower) h =
+vertices_low (Fork' height i left right right_ends upper left_ends lower) h =
     omega (arith, vertices_low left h.0, vertices_low right h.1)
 vertices_low Taken h = absurd h
 

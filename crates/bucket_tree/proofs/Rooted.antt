@@ -31,7 +31,7 @@ use Rattle.bucket_tree.proofs.NodeHeights.{no_higher}
 -- each point below a node has a multiplicity that a point may have
 pub multiplicities : (n : Node) → HasBuckets n → All IsMultiplicity (multiplicities_below n)
 multiplicities (Leaf b) h = h.held
-multiplicities (Fork' height i left_ends left right_ends right upper lower) h =
+multiplicities (Fork' height i left right right_ends upper left_ends lower) h =
     All-append IsMultiplicity (multiplicities_below left) (multiplicities_below right) (multiplicities left h.0)
     (multiplicities right h.1)
 multiplicities Taken h = absurd h

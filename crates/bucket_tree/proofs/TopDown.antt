@@ -105,29 +105,29 @@ substitute put p (Leaf b) (Leaf c) below w d = record {
   changed = changed_leaf put p b c c.value below refl d.0 d.1;
   points = refl;
 }
-substitute put p (Leaf b) (Fork' k i le l re r u lo) below w d = absurd d
+substitute put p (Leaf b) (Fork' k i l r re u le lo) below w d = absurd d
 substitute put p (Leaf b) Taken below w d = absurd d
 substitute put p Taken m below w d = absurd d
-substitute put p (Fork' h j xe x ye y q t) (Leaf c) below w d = absurd d
-substitute put p (Fork' h j xe x ye y q t) Taken below w d = absurd d
-substitute put p (Fork' h j xe x ye y q t) (Fork' k i le l re r u lo) below w (e, d) =
-    let same = ap (λ z. Fork' z j xe x ye y q t) (sym e) in
+substitute put p (Fork' h j x y ye q xe t) (Leaf c) below w d = absurd d
+substitute put p (Fork' h j x y ye q xe t) Taken below w d = absurd d
+substitute put p (Fork' h j x y ye q xe t) (Fork' k i l r re u le lo) below w (e, d) =
+    let same = ap (λ z. Fork' z j x y ye q xe t) (sym e) in
     elim d [
-      | inl (first, v, d) ↦ substitute_above true put p (Fork' h j xe x ye y q t) k _ _ below
+      | inl (first, v, d) ↦ substitute_above true put p (Fork' h j x y ye q xe t) k _ _ below
           (fork_at true p _ k _ _ _ same refl refl w.built first) v w (λ c. substitute put p x l below c d)
-      | inr (first, v, d) ↦ substitute_above false put p (Fork' h j xe x ye y q t) k _ _ below
+      | inr (first, v, d) ↦ substitute_above false put p (Fork' h j x y ye q xe t) k _ _ below
           (fork_at false p _ k _ _ _ same refl refl w.built first) v w (λ c. substitute put p y r below c d)
     ]
 
 -- it is as high as that one
 pub height_below : (put : Bool) (p : Pair) (n k : Node) (below : Changed) → HasChangedBelow put p n k below → node_height k ≡ node_height n
 height_below put p (Leaf b) (Leaf c) below d = refl
-height_below put p (Leaf b) (Fork' k i le l re r u lo) below d = absurd d
+height_below put p (Leaf b) (Fork' k i l r re u le lo) below d = absurd d
 height_below put p (Leaf b) Taken below d = absurd d
 height_below put p Taken m below d = absurd d
-height_below put p (Fork' h j xe x ye y q t) (Leaf c) below d = absurd d
-height_below put p (Fork' h j xe x ye y q t) Taken below d = absurd d
-height_below put p (Fork' h j xe x ye y q t) (Fork' k i le l re r u lo) below (e, d) = elim d [
+height_below put p (Fork' h j x y ye q xe t) (Leaf c) below d = absurd d
+height_below put p (Fork' h j x y ye q xe t) Taken below d = absurd d
+height_below put p (Fork' h j x y ye q xe t) (Fork' k i l r re u le lo) below (e, d) = elim d [
   | inl (first, v, d) ↦ let a = height_below put p x l below d in
       let s = ap (λ (z : Below). node_height z.right) v in omega (arith, a, s)
   | inr (first, v, d) ↦ let a = height_below put p y r below d in

@@ -87,8 +87,8 @@ HasChangedIn false = HasTakenFrom
 -- the edges and ends there are those of before.
 abbrev pub HasChangedBelow : Bool → Pair → Node → Node → Changed → Type 0
 HasChangedBelow put p (Leaf b) (Leaf c) change = IsBucket c.value × HasChangedIn put p b.value c.value change
-HasChangedBelow put p (Fork' h i old_left_ends old_left old_right_ends old_right old_upper old_lower)
-    (Fork' k j left_ends left right_ends right upper lower) change =
+HasChangedBelow put p (Fork' h i old_left old_right old_right_ends old_upper old_left_ends old_lower)
+    (Fork' k j left right right_ends upper left_ends lower) change =
     let old : Fork = record {
       left_ends = old_left_ends;
       left = old_left;

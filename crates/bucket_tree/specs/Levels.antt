@@ -6,7 +6,7 @@ use Rattle.bucket_tree.specs.declared.node.Node.{Node, Leaf, Fork', Taken}
 -- what the forks of a level store, from left to right; the node itself is on level `here`; a bucket stores none
 unfoldable pub level_of : ℕ → ℕ → Node → List Bridge
 level_of wanted here (Leaf b) = []
-level_of wanted here (Fork' height i left_ends left right_ends right upper lower) = if here == wanted
+level_of wanted here (Fork' height i left right right_ends upper left_ends lower) = if here == wanted
     then record { level = wanted; upper = upper; lower = lower } ∷ []
     else level_of wanted (here + 1) left ++ level_of wanted (here + 1) right
 level_of wanted here Taken = []

@@ -18,7 +18,7 @@ tree_of_bucket b = tree_of_slice b (all_of b)
 -- the half of a hull that a node is: of its buckets only the vertices
 abbrev pub tree_of : Node → Tree
 tree_of (Leaf b) = tree_of_bucket b.value
-tree_of (Fork' height i left_ends left right_ends right upper lower) =
+tree_of (Fork' height i left right right_ends upper left_ends lower) =
     ForkTree upper lower (tree_of left) (tree_of right)
 tree_of Taken = LeafTree origin
 
@@ -29,20 +29,20 @@ tree_at f = ForkTree f.upper f.lower (tree_of f.left) (tree_of f.right)
 -- all points below a node, in order
 abbrev pub points_below : Node → List Pair
 points_below (Leaf b) = b.value.points
-points_below (Fork' height i left_ends left right_ends right upper lower) = points_below left ++ points_below right
+points_below (Fork' height i left right right_ends upper left_ends lower) = points_below left ++ points_below right
 points_below Taken = []
 
 -- the multiplicity of each of them
 abbrev pub multiplicities_below : Node → List ℕ
 multiplicities_below (Leaf b) = b.value.multiplicities
-multiplicities_below (Fork' height i left_ends left right_ends right upper lower) = multiplicities_below left ++
+multiplicities_below (Fork' height i left right right_ends upper left_ends lower) = multiplicities_below left ++
     multiplicities_below right
 multiplicities_below Taken = []
 
 -- the height of a node: the number of forks above its deepest bucket
 abbrev pub node_height : Node → ℕ
 node_height (Leaf b) = 0
-node_height (Fork' height i left_ends left right_ends right upper lower) = max (node_height left) (node_height right)
+node_height (Fork' height i left right right_ends upper left_ends lower) = max (node_height left) (node_height right)
     + 1
 node_height Taken = 0
 
@@ -53,7 +53,7 @@ AreNear m n = (m ≤ n + 1) × (n ≤ m + 1)
 -- the heights of the two halves of each fork differ by at most one
 abbrev pub IsBalanced : Node → Type 0
 IsBalanced (Leaf b) = Unit {0}
-IsBalanced (Fork' height i left_ends left right_ends right upper lower) =
+IsBalanced (Fork' height i left right right_ends upper left_ends lower) =
     AreNear (node_height left) (node_height right) × IsBalanced left × IsBalanced right
 IsBalanced Taken = Unit {0}
 
@@ -64,7 +64,7 @@ ends_in S = record { first = first_of S; last = last_of S }
 -- each fork stores its height, and the first and the last point of each half
 abbrev pub IsLabelled : Node → Type 0
 IsLabelled (Leaf b) = Unit {0}
-IsLabelled (Fork' height i left_ends left right_ends right upper lower) =
+IsLabelled (Fork' height i left right right_ends upper left_ends lower) =
     (left_ends ≡ ends_in (points_below left)) × (right_ends ≡ ends_in (points_below right))
     × (height ≡ max (node_height left) (node_height right) + 1) × IsLabelled left × IsLabelled right
 IsLabelled Taken = Unit {0}
@@ -72,13 +72,13 @@ IsLabelled Taken = Unit {0}
 -- each bucket below a node is well formed, and no gap is left
 abbrev pub HasBuckets : Node → Type 0
 HasBuckets (Leaf b) = IsBucket b.value
-HasBuckets (Fork' height i left_ends left right_ends right upper lower) = HasBuckets left × HasBuckets right
+HasBuckets (Fork' height i left right right_ends upper left_ends lower) = HasBuckets left × HasBuckets right
 HasBuckets Taken = ⊥
 
 -- no gap is left below a node
 abbrev pub IsWhole : Node → Type 0
 IsWhole (Leaf b) = Unit {0}
-IsWhole (Fork' height i left_ends left right_ends right upper lower) = IsWhole left × IsWhole right
+IsWhole (Fork' height i left right right_ends upper left_ends lower) = IsWhole left × IsWhole right
 IsWhole Taken = ⊥
 
 -- nor below a fork

@@ -6,7 +6,7 @@ use Rattle.bucket_tree.specs.Nodes.{IsWhole, AreWhole}
 -- that no gap is left below a node has one proof
 pub IsWhole-prop : (n : Node) → IsProp (IsWhole n)
 IsWhole-prop (Leaf b) = hlevel
-IsWhole-prop (Fork' height i left_ends left right_ends right upper lower) =
+IsWhole-prop (Fork' height i left right right_ends upper left_ends lower) =
     let k : IsProp (IsWhole left) = IsWhole-prop left in
     let l : IsProp (IsWhole right) = IsWhole-prop right in
     hlevel (k, l)

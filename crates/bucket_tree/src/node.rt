@@ -30,14 +30,17 @@ pub(crate) struct Ends {
 
 /// The two halves of a fork, all points of the left one before all of the right one, the ends of each, and their
 /// bridges.
+///
+/// What the way down to a point reads is first, so that it is on one line of the cache if the block begins at one; then the upper bridge on the next
+/// line, and the lower one on the last.
 #[cycle(node)]
 #[derive(Drop)]
 pub struct Fork {
-    pub(crate) left_ends: Ends,
     pub(crate) left: Node,
-    pub(crate) right_ends: Ends,
     pub(crate) right: Node,
+    pub(crate) right_ends: Ends,
     pub(crate) upper: (Point, Point),
+    pub(crate) left_ends: Ends,
     pub(crate) lower: (Point, Point),
 }
 
