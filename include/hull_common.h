@@ -19,7 +19,7 @@
 #endif
 
 /* The version of these headers, and of the archives that are installed with them. */
-#define HULL_VERSION "3.12.0"
+#define HULL_VERSION "3.13.0"
 
 /* The greatest size of a coordinate, of a point and of a direction: 2^40. */
 #define HULL_COORDINATE_MAX INT64_C(1099511627776)

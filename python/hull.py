@@ -56,7 +56,7 @@ from typing import SupportsIndex, Tuple, TypeVar, Union, overload
 if sys.version_info < (3, 8):
     raise ImportError("the module hull needs Python 3.8 or later")
 
-__version__ = "3.12.0"
+__version__ = "3.13.0"
 __all__ = [
     "CAPACITY_LIMIT", "COORDINATE_LIMIT", "MULTIPLICITY_LIMIT", "POINT_LIMIT", "READER_LIMIT", "SEAT_LIMIT", "Busy", "Ended",
     "FloatHull", "GrowingHull", "Hull", "JournalFault", "JournalFull", "JournalSegment", "Lattice", "Motion", "NoSeat", "OutOfRange", "Place", "Polygon",
@@ -778,7 +778,8 @@ def wkt(vertices: Points, power: SupportsIndex = 0) -> str:
     """Returns vertices as well-known text (OGC 06-103r4), which GEOS, PostGIS and QGIS read.
 
     POLYGON EMPTY, a POINT, a LINESTRING, or a POLYGON whose ring is closed and runs counterclockwise. Coordinates are integers (TypeError
-    for floats), divided by 2**power, and are written with the fewest digits that give that float again.
+    for floats), divided by 2**power, and are written with the fewest digits that give that float again. OverflowError if one of them is then
+    greater than all floats.
     """
     whole = [(_index(x), _index(y)) for x, y in vertices]
     pairs = whole if operator.index(power) == 0 else to_floats(whole, power)
