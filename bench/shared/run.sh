@@ -1,6 +1,6 @@
 #!/bin/sh
 # One hull for several threads, timed: mixed calls from 1, 2, 4, 8, 16 and 64 threads through a shared hull, beside a mutex
-# round a hull of one thread, in C (also in strict order) and in Rust; and calls of four threads with a journal that is held, drained, written to a file or
+# round a hull of one thread, in C (also in strict order) and in Rust; the least that calls in the order of tickets cost; and calls of four threads with a journal that is held, drained, written to a file or
 # with none; how long a call waits at most; and threads that ask while one changes, by readers and by other ways. Needs cc, c++ and
 # rustc, and a quiet machine.
 #
@@ -19,6 +19,10 @@ rust() {
 rust --crate-type rlib --crate-name hull --out-dir "$room" "$top/rust/hull/src/lib.rs"
 rust --extern hull "$here/mixed.rs" -o "$room/mixed_rust"
 "$room/mixed_c" "$@"
+cc -std=gnu11 -O2 -I"$room/include" "$here/least.c" -L"$room/lib" -lhull -lhull_shared -lpthread -o "$room/least"
+for threads in 8 16 64; do
+    "$room/least" "$threads" 400000 3
+done
 cc -std=gnu11 -O2 -I"$room/include" "$here/drained.c" -L"$room/lib" -lhull_shared -lpthread -o "$room/drained"
 cc -std=gnu11 -O2 -I"$room/include" "$here/passes.c" -L"$room/lib" -lhull_shared -lpthread -o "$room/passes"
 for threads in 8 64; do
