@@ -2,9 +2,10 @@
  * 2010), with one line of the cache for a call and one for the word that it was served, and no seat, journal, gate or proof. Beside it a mutex
  * around the set, and the two modes of a shared hull that keeps no lines: one call admitted at a time (the default), and strict order.
  *
- *     least THREADS CALLS ROUNDS
+ *     least THREADS CALLS ROUNDS [LINES]
  *
- * The threads make so many mixed calls in all, on 1,000 points. Prints the least time a call of the rounds, which take turns, in nanoseconds,
+ * The threads make so many mixed calls in all, on 1,000 points. With LINES, the combining also writes as many lines of the cache that belong to
+ * the thread of each call, as a seat has, both before the call and when it is served. Prints the least time a call of the rounds, which take turns, in nanoseconds,
  * and how often the default's time that of the combining and of strict order is. */
 #include "hull.h"
 #include "hull_shared.h"
@@ -14,7 +15,7 @@
 #include <stdlib.h>
 #include <time.h>
 
-enum { SIZE = 1 << 20, POINTS = 1000, LIMIT = 100000, SLOTS = 64, SERVES_MOST = 256, LOOKS = 10, KINDS = 8 };
+enum { SIZE = 1 << 20, POINTS = 1000, LIMIT = 100000, SLOTS = 64, SERVES_MOST = 256, LOOKS = 10, KINDS = 8, LINE = 64, LINES_MOST = 8 };
 enum mode { MUTEX, COMBINING, DEFAULT, STRICT, MODES };
 
 static const uint32_t KIND[KINDS] = {HULL_KIND_ADD, HULL_KIND_PLACE,    HULL_KIND_REMOVE, HULL_KIND_EXTREME,
@@ -32,6 +33,12 @@ static struct {
 static struct {
     _Alignas(64) uint64_t number;
 } served[HULL_SHARED_SEATS_MAX];
+
+/* The lines that belong to a thread. */
+static struct {
+    _Alignas(64) unsigned char bytes[LINES_MOST * LINE];
+} owned[HULL_SHARED_SEATS_MAX];
+static unsigned lines;
 
 static _Alignas(64) uint64_t taken;
 static pthread_mutex_t mutex = PTHREAD_MUTEX_INITIALIZER;
@@ -55,6 +62,24 @@ static int64_t coordinate(uint64_t *state) {
     return (int64_t)(*state % (2 * SIZE)) - SIZE;
 }
 
+static void write_lines(unsigned thread) {
+    for (unsigned k = 0; k < lines; k++) {
+        owned[thread].bytes[k * LINE]++;
+    }
+}
+
+/* Prefetches for writing the lines that belong to the thread of a call, if it waits. */
+static void fetch_lines(uint64_t number) {
+    for (unsigned k = 0; k < lines && __atomic_load_n(&slots[number % SLOTS].number, __ATOMIC_RELAXED) == number + 1; k++) {
+        const unsigned char *line = &owned[slots[number % SLOTS].thread].bytes[k * LINE];
+#if defined(__x86_64__)
+        __asm__ volatile("prefetchw %0" : : "m"(*line));
+#else
+        __builtin_prefetch(line, 1);
+#endif
+    }
+}
+
 /* Waits until the call with this number, which is in its slot, was served, and returns 1; or returns 0 when its thread is to serve. */
 static int waits_for_another(unsigned thread, uint64_t number) {
     for (unsigned looks = 0;; looks++) {
@@ -75,7 +100,9 @@ static void serve_after(uint64_t number) {
     for (unsigned k = 0; k < SERVES_MOST && __atomic_load_n(&slots[(number + 1) % SLOTS].number, __ATOMIC_ACQUIRE) == number + 2; k++) {
         number++;
         __builtin_prefetch(&slots[(number + 1) % SLOTS], 1);
+        fetch_lines(number + 1);
         hull_call(plain, slots[number % SLOTS].kind, slots[number % SLOTS].x, slots[number % SLOTS].y);
+        write_lines(slots[number % SLOTS].thread);
         __atomic_store_n(&served[slots[number % SLOTS].thread].number, number + 1, __ATOMIC_RELEASE);
     }
     __atomic_store_n(&slots[(number + 1) % SLOTS].turn, number + 1, __ATOMIC_SEQ_CST);
@@ -84,6 +111,7 @@ static void serve_after(uint64_t number) {
 static void call_combined(unsigned thread, uint32_t kind, int64_t x, int64_t y) {
     const uint64_t number = __atomic_fetch_add(&taken, 1, __ATOMIC_ACQ_REL);
     if (__atomic_load_n(&slots[number % SLOTS].turn, __ATOMIC_ACQUIRE) != number) {
+        write_lines(thread);
         slots[number % SLOTS].kind = kind;
         slots[number % SLOTS].x = x, slots[number % SLOTS].y = y;
         slots[number % SLOTS].thread = thread;
@@ -184,10 +212,11 @@ static double round_of(unsigned threads) {
 }
 
 int main(int count, char **words) {
-    const unsigned threads = count == 4 ? (unsigned)atoi(words[1]) : 0;
+    const unsigned threads = count == 4 || count == 5 ? (unsigned)atoi(words[1]) : 0;
     double least[MODES] = {0};
-    if (threads < 1 || threads > HULL_SHARED_SEATS_MAX) {
-        fprintf(stderr, "usage: least THREADS CALLS ROUNDS\n");
+    lines = count == 5 ? (unsigned)atoi(words[4]) : 0;
+    if (threads < 1 || threads > HULL_SHARED_SEATS_MAX || lines > LINES_MOST) {
+        fprintf(stderr, "usage: least THREADS CALLS ROUNDS [LINES]\n");
         return 2;
     }
     calls_of_each = atol(words[2]) / (long)threads;

@@ -22,6 +22,7 @@ rust --extern hull "$here/mixed.rs" -o "$room/mixed_rust"
 cc -std=gnu11 -O2 -I"$room/include" "$here/least.c" -L"$room/lib" -lhull -lhull_shared -lpthread -o "$room/least"
 for threads in 8 16 64; do
     "$room/least" "$threads" 400000 3
+    "$room/least" "$threads" 400000 3 5
 done
 cc -std=gnu11 -O2 -I"$room/include" "$here/drained.c" -L"$room/lib" -lhull_shared -lpthread -o "$room/drained"
 cc -std=gnu11 -O2 -I"$room/include" "$here/passes.c" -L"$room/lib" -lhull_shared -lpthread -o "$room/passes"
