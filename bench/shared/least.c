@@ -5,8 +5,8 @@
  *     least THREADS CALLS ROUNDS [LINES]
  *
  * The threads make so many mixed calls in all, on 1,000 points. With LINES, the combining also writes as many lines of the cache that belong to
- * the thread of each call, as a seat has, both before the call and when it is served. Prints the least time a call of the rounds, which take turns, in nanoseconds,
- * and how often the default's time that of the combining and of strict order is. */
+ * the thread of each call, as a seat has, both before the call and when it is served. Prints the least time of the rounds, which take turns, in
+ * nanoseconds a call, and the time of the combining and of strict order divided by that of the default. */
 #include "hull.h"
 #include "hull_shared.h"
 #include <pthread.h>

@@ -1,7 +1,7 @@
 #!/bin/sh
 # One hull for several threads, timed: mixed calls from 1, 2, 4, 8, 16 and 64 threads through a shared hull, beside a mutex
-# round a hull of one thread, in C (also in strict order) and in Rust; the least that calls in the order of tickets cost; and calls of four threads with a journal that is held, drained, written to a file or
-# with none; how long a call waits at most; and threads that ask while one changes, by readers and by other ways. Needs cc, c++ and
+# round a hull of one thread, in C (also in strict order) and in Rust; the least that calls in the order of tickets cost; and calls of four
+# threads with a journal that is held, drained, written to a file or with none; how long a call waits at most; and threads that ask while one changes, by readers and by other ways. Needs cc, c++ and
 # rustc, and a quiet machine.
 #
 # run.sh [POINTS [CALLS [ROUNDS [BUSY]]]]: so many points at first (1000), so many calls in all (200000), so many rounds
