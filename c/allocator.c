@@ -5,7 +5,8 @@
  *
  * A fork of a set's tree is placed within its block from malloc so that the 48 bytes that the way down to a point reads are on one line of the
  * cache: where there are very many points, it mostly waits for these lines. A fork's address is 8 above a multiple of 16, and that of each other
- * block is a multiple of 16, as malloc's are from 16 bytes on: this tells them apart. The address of the block is stored before the fork. */
+ * block is a multiple of 16, as malloc's are from 16 bytes on, which distinguishes the two. The address of the block is stored before the fork.
+ * A block that is as large as a fork is placed so too, unless it has to be at a multiple of 16. */
 #include <errno.h>
 #include <stdint.h>
 #if defined(__linux__)
@@ -77,8 +78,8 @@ static void *in_large_pages(void *block, size count) {
 /* Returns a block of `count` bytes; one of none has an address of its own. */
 __attribute__((weak)) struct tried rattle_alloc(size count, size alignment) {
     const int saved_errno = errno;
-    const struct tried tried = result_of(count == FORK ? new_fork() : in_large_pages(malloc(at_least_aligned(count)), count));
-    (void)alignment;
+    const int is_placed = count == FORK && alignment <= FORK_BEGINS;
+    const struct tried tried = result_of(is_placed ? new_fork() : in_large_pages(malloc(at_least_aligned(count)), count));
     errno = saved_errno;
     return tried;
 }

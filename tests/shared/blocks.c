@@ -88,6 +88,9 @@ static void check_forks(void) {
         memset(forks[k].block, (int)(k % 251), FORK);
         memset(others[k].block, 255, other);
     }
+    struct tried wide = rattle_alloc(FORK, 16);
+    check("where a block of that size begins that is aligned to 16", (uintptr_t)wide.block % 16, 0);
+    rattle_dealloc(wide.block);
     for (size_t k = 0; k < FORKS; k++) {
         rattle_dealloc(others[k].block);
         check_bytes(forks[k].block, FORK, (unsigned)(k % 251));
